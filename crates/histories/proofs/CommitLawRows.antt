@@ -28,7 +28,8 @@ use Rattle.histories.specs.CommitLaw.{committed, CommitsAtItsInstant, IsCommitte
 use Rattle.histories.specs.History.{History, log, log_at_begin, mine, net, own, reply_in, schema_after, snap, snap_of}
 use Rattle.histories.proofs.ConflictFound.{all_of, each_itself}
 use Rattle.histories.proofs.ConflictLeast.{beyond, end_now, replies_so}
-use Rattle.histories.proofs.HistoryGrowth.{log_rises, outcome_above}
+use Rattle.values.proofs.CommitsAbove.{outcome_above}
+use Rattle.histories.proofs.HistoryGrowth.{log_rises}
 use Rattle.histories.proofs.HistoryIdle.{none_open}
 use Rattle.histories.proofs.HistoryPast.{snap_below}
 use Rattle.histories.proofs.HistoryTables.{periods_stay}

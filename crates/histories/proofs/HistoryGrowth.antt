@@ -1,40 +1,20 @@
 -- What was committed stays, and the instants rise.
-use Rattle.std.proofs.Common.{◌≡◌, ℕ, ◌+◌, ◌<◌, Bool, true, false, List, [], ◌∷◌, ◌++◌, Option, Some, None, refl, sym, ap, subst, ◌∙◌, append-nil, append_assoc, arith}
-use Rattle.std.specs.Prelude.{Result, Ok, Err, if◌then◌else◌, nat_lt, max}
-use Rattle.values.specs.declared.key.Key.{Key}
+use Rattle.std.proofs.Common.{◌≡◌, ℕ, ◌<◌, [], ◌∷◌, ◌++◌, Option, Some, None, refl, sym, ap, subst, ◌∙◌, append-nil, append_assoc}
+use Rattle.std.specs.Prelude.{Result, Ok, Err}
 use Rattle.values.specs.declared.refusal.Refusal.{Refusal}
-use Rattle.values.specs.declared.refusal.Refusal.TheVariants.{Conflict, ClockEnd}
 use Rattle.values.specs.Tables.{Schema}
-use Rattle.values.specs.Log.{Log, Net, Changes, last, changes}
+use Rattle.values.specs.Log.{Log, Net, last, changes}
 use Rattle.values.specs.Law.{IsLog, shown_rows}
 use Rattle.values.specs.declared.query.Form.TheVariants.{AsOf}
-use Rattle.values.specs.Period.{Periods, periods_of}
-use Rattle.values.specs.Commits.{outcome, log_after, after, max_instant}
-use Rattle.values.specs.ChangedSince.{conflicts}
+use Rattle.values.specs.Period.{periods_of}
+use Rattle.values.specs.Commits.{outcome, log_after, after}
+use Rattle.values.proofs.CommitsAbove.{outcome_above}
 use Rattle.values.proofs.LawAsOf.{as_of_stays}
 use Rattle.values.proofs.LogPush.{Rises-push}
 use Rattle.steps.specs.declared.step.Step.{Step}
 use Rattle.steps.specs.declared.step.Step.TheVariants.{Begin, Insert, Update, Delete, UpdatePortion, DeletePortion, Select, Commit, Rollback, AddColumn, SplitKey, SplitTime, Migrate}
 use Rattle.histories.specs.History.{History, schema_after, log, log_at_begin, own, net_change_of}
 use Rattle.histories.specs.Law.{LogsRise, LaterStepsAdd, PastStays}
-
-late : (b : Bool) (n i : ℕ) (e : Refusal) → ◌≡◌ {A = Result (Option ℕ) Refusal} (if b then Err e else Ok (Some n)) (Ok (Some i)) → i ≡ n
-late true n i e h = cc
-late false n i e h = cc
-
-settled : (xs : List (Key × ℕ)) (latest reading i : ℕ) → ◌≡◌ {A = Result (Option ℕ) Refusal} (elim xs [
-  | first ∷ others ↦ Err (Conflict first.0 first.1)
-  | [] ↦ if nat_lt max_instant (max reading (latest + 1)) then Err ClockEnd else Ok (Some (max reading (latest + 1)))
-]) (Ok (Some i)) → latest < i
-settled [] latest reading i e =
-    let is : i ≡ max reading (latest + 1) = late _ _ _ ClockEnd e in
-    omega arith
-settled (x ∷ xs) latest reading i e = cc
-
--- a commit's instant is above the last one
-pub outcome_above : (periods : Periods) (m : Changes) (latest start : ℕ) (net : Net) (reading i : ℕ) → outcome periods m latest start net reading ≡ Ok (Some i) → latest < i
-outcome_above periods m latest start [] reading i e = cc
-outcome_above periods m latest start (change ∷ net) reading i e = settled (conflicts periods m start (change ∷ net)) latest reading i e
 
 pub rises_ended : (log : Log) (net : Net) (end : Result (Option ℕ) Refusal) → ((i : ℕ) → end ≡ Ok (Some i) → last log < i) → IsLog log → IsLog (log_after log net end)
 rises_ended log net (Ok (Some i)) above r = Rises-push log 0 (record { instant = i; net = net }) r (above i refl)

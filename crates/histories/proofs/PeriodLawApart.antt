@@ -20,7 +20,8 @@ use Rattle.periods.proofs.NoOverlapNets.{each_net, new_of_net}
 use Rattle.periods.proofs.NoOverlapStatements.{IsSound}
 use Rattle.histories.specs.History.{History, schema_after, log, log_at_begin, own, own_of, snap, snap_of, mine, net}
 use Rattle.histories.specs.PeriodLaw.{NeverOverlap, OwnNeverOverlap}
-use Rattle.histories.proofs.HistoryGrowth.{outcome_above, log_rises}
+use Rattle.values.proofs.CommitsAbove.{outcome_above}
+use Rattle.histories.proofs.HistoryGrowth.{log_rises}
 use Rattle.histories.proofs.HistoryOwn.{own_fits}
 use Rattle.histories.proofs.HistoryPast.{snap_below}
 use Rattle.histories.proofs.HistoryTables.{periods_stay}

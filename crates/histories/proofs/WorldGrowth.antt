@@ -10,7 +10,7 @@ use Rattle.values.specs.Period.{Periods, periods_of}
 use Rattle.values.specs.Commits.{outcome, log_after, after}
 use Rattle.steps.specs.declared.step.Step.{Step}
 use Rattle.steps.specs.declared.step.Step.TheVariants.{Commit}
-use Rattle.histories.proofs.HistoryGrowth.{outcome_above}
+use Rattle.values.proofs.CommitsAbove.{outcome_above}
 use Rattle.histories.proofs.HistoryPrefixes.{opened_below}
 use Rattle.histories.specs.Stands.{open_in, open_from}
 use Rattle.histories.specs.History.{History, schema_after, log, log_at_begin, own, net_change_of, rewrite_all}

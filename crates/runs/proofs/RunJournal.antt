@@ -12,7 +12,8 @@ use Rattle.values.specs.Events.{IsKeyIn, AreChangesIn}
 use Rattle.values.proofs.LawAsOf.{upto-append}
 use Rattle.values.proofs.LogPush.{upto_all}
 use Rattle.values.proofs.LogUpto.{changes_upto_is}
-use Rattle.histories.proofs.HistoryGrowth.{adds_ended, outcome_above, rises_ended}
+use Rattle.values.proofs.CommitsAbove.{outcome_above}
+use Rattle.histories.proofs.HistoryGrowth.{adds_ended, rises_ended}
 use Rattle.serving.specs.journal.declared.entry.Entry.{Entry}
 use Rattle.serving.specs.journal.declared.entry.Entry.TheVariants.{Begin, Commit, Split, Install}
 use Rattle.serving.specs.journal.Entries.{Entries, entry_at, start_of, log}

@@ -39,16 +39,16 @@ then_assoc Less p q = refl
 then_assoc Equal p q = refl
 then_assoc Greater p q = refl
 
-mapped : {P Q R P' Q' R' : Type 0} (o : Ordering) → (P → P') → (Q → Q') → (R → R') → MatchOrdering o P Q R → MatchOrdering o P' Q' R'
+pub mapped : {P Q R P' Q' R' : Type 0} (o : Ordering) → (P → P') → (Q → Q') → (R → R') → MatchOrdering o P Q R → MatchOrdering o P' Q' R'
 mapped Less f g h m = f m
 mapped Equal f g h m = g m
 mapped Greater f g h m = h m
 
-less : (w a b r s : ℕ) → r < w → a < b → a * w + r < b * w + s
+pub less : (w a b r s : ℕ) → r < w → a < b → a * w + r < b * w + s
 less w a b r s p h = let m : suc a * w ≤ b * w = mul-le-mul_right w h in omega (arith, m)
 
 -- numbers of two digits compare by the first, and then by the second
-digits_cmp : (w a b r s : ℕ) → r < w → s < w → nat_cmp (a * w + r) (b * w + s) ≡ ordering_then (nat_cmp a b) (nat_cmp r s)
+pub digits_cmp : (w a b r s : ℕ) → r < w → s < w → nat_cmp (a * w + r) (b * w + s) ≡ ordering_then (nat_cmp a b) (nat_cmp r s)
 digits_cmp w a b r s p q = sym (nat_cmp_is (a * w + r) (b * w + s) _ (by_first (nat_cmp a b) (ranks a b)))
   where
     by_second : (o : Ordering) → a ≡ b → MatchOrdering o (r < s) (r ≡ s) (s < r) → MatchOrdering o (a * w + r < b * w + s) (a * w + r ≡ b * w + s) (b * w + s < a * w + r)
@@ -64,7 +64,7 @@ byte_at-is : (k n : ℕ) → byte_at k n ≡ n / 256 ^ k % 256
 byte_at-is zero n = ap (λ m. m % 256) (sym (div-one n))
 byte_at-is (suc k) n = refl
 
-pow_positive : (k : ℕ) → 0 < 256 ^ k
+pub pow_positive : (k : ℕ) → 0 < 256 ^ k
 pow_positive zero = omega arith
 pow_positive (suc k) = rw (pow-succ' 256 k) (omega (arith, pow_positive k))
 

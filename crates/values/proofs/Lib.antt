@@ -23,3 +23,5 @@ pub mod ColumnsTables
 pub mod TablesButLast
 pub mod ColumnsKeys
 pub mod ColumnsWiden
+pub mod KeyPrefixOrder
+pub mod CommitsAbove

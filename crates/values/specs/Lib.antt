@@ -16,6 +16,7 @@ pub mod KeyEncoding
 pub mod KeyEncodingLaw
 pub mod KeyFit
 pub mod KeyLaw
+pub mod KeyPrefix
 pub mod KeyReading
 pub mod Law
 pub mod Log

@@ -1,5 +1,5 @@
 -- Tables by their numbers, and the values of their columns by theirs: both are numbered from 1.
-use Rattle.std.specs.Prelude.{ℕ, ◌+◌, ◌-◌, ◌==◌, ◌||◌, List, [], ◌∷◌, ◌++◌, replicate, Bool, false, Option, Some, None, if◌then◌else◌, length}
+use Rattle.std.specs.Prelude.{ℕ, ◌-◌, ◌==◌, ◌||◌, List, [], ◌∷◌, ◌++◌, replicate, Bool, false, Option, Some, None, if◌then◌else◌, length}
 use Rattle.std.specs.List.{slice_get, list_any}
 use Rattle.std.specs.Option.{unwrap_or}
 use Rattle.values.specs.declared.value.Value.{Value}

@@ -1,11 +1,16 @@
 //! The bytes of keys, in the order of keys.
 ghost use Rattle.std.specs.Prelude.{◌≡◌, ℤ, ◌++◌, ◌∷◌, [], IfOk, OnOk, Option, Some, None, if◌then◌else◌, nat_le, length, ◌<◌};
 ghost use Rattle.values.specs.KeyEncoding.{ordinal_of, text_bytes, part_bytes, bytes_of_key, IsShortKey, longest_key};
+ghost use Rattle.std.specs.Ordering.{nat_cmp};
+ghost use Rattle.std.specs.Cmp.Lexicographic.{slice_cmp};
 ghost use Rattle.values.specs.KeyFit.{IsKeyIn};
+ghost use Rattle.values.specs.KeyPrefix.{IsPrefixOf};
+ghost use Rattle.values.specs.declared.key_prefix.KeyPrefix.{KeyPrefix};
 ghost use Rattle.values.specs.Memory.{OnlyMemory};
 
 use crate::key::Key;
 use crate::key_law::fitting_keys_have_bytes;
+use crate::key_prefix::{KeyPrefix, PREFIX};
 use crate::refusal::Mem;
 use crate::schema::Schema;
 use crate::value::Value;
@@ -23,21 +28,25 @@ const INSIDE: usize = 22;
 /// The bytes of a key, or a prefix of them, while they are written: short ones need no allocation.
 pub type KeyBuffer = SmallVec<u8, INSIDE>;
 
-/// At most 1,609 bytes, ordered by bytes. The empty one is the least, and is no key's.
+/// At most 1,609 bytes, ordered by bytes. The empty one is the least, and is no key's. The prefix is
+/// kept beside them, so that a comparison seldom reads them.
 #[derive(Debug, Drop)]
 pub struct KeyBytes {
+    prefix: KeyPrefix,
     bytes: KeyBuffer,
 }
 
 impl Model for KeyBytes {
     ghost use Rattle.std.specs.Prelude.{List, ℕ, length, ◌≤◌};
     ghost use Rattle.values.specs.KeyEncoding.{longest_key};
+    ghost use Rattle.values.specs.KeyPrefix.{IsPrefixOf};
 
     ghost Value = { List ℕ };
 
     ghost view = { λ k. k.bytes.items };
 
-    ghost invariant = { λ k. length k.bytes.items ≤ longest_key };
+    ghost invariant = { λ k. (length k.bytes.items ≤ longest_key)
+        × IsPrefixOf k.prefix k.bytes.items };
 }
 
 impl KeyBytes {
@@ -57,7 +66,10 @@ impl KeyBytes {
         if bytes.len() <= LONGEST_KEY {
             let mut bytes = bytes;
             bytes.shrink_to_fit();
-            Some(KeyBytes { bytes })
+            Some(KeyBytes {
+                prefix: KeyPrefix::of(bytes.as_slice()),
+                bytes,
+            })
         } else {
             None
         }
@@ -68,6 +80,7 @@ impl KeyBytes {
         ensures { result ≡ [] }
     {
         KeyBytes {
+            prefix: KeyPrefix::of(&[]),
             bytes: KeyBuffer::new(alloc),
         }
     }
@@ -95,6 +108,7 @@ impl Clone for KeyBytes {
 
     fn clone(&self) -> Result<KeyBytes, AllocError> {
         Ok(KeyBytes {
+            prefix: self.prefix,
             bytes: KeyBuffer::from_slice(*self.bytes.allocator(), self.bytes())?,
         })
     }
@@ -110,7 +124,7 @@ impl PartialEq for KeyBytes {
     ghost laws = { partial_equiv_from_equiv nat_list_eq_equiv };
 
     fn eq(&self, other: &KeyBytes) -> bool {
-        self.bytes() == other.bytes()
+        self.cmp(other).is_eq()
     }
 }
 
@@ -148,8 +162,25 @@ impl Ord for KeyBytes {
     ghost matches_eq = { texts_ties };
 
     fn cmp(&self, other: &KeyBytes) -> Ordering {
-        self.bytes().cmp(other.bytes())
+        match self.prefix.cmp(&other.prefix) {
+            Ordering::Equal => order_behind_prefix(self.bytes(), other.bytes()),
+            unequal => unequal,
+        }
     }
+}
+
+/// Compares the bytes of two keys with one prefix. The lengths decide where one of them has no more
+/// bytes, since then the longer begins with the shorter.
+fn order_behind_prefix(bytes: &[u8], others: &[u8]) -> Ordering
+    ensures { (prefix : KeyPrefix) → IsPrefixOf prefix bytes.now → IsPrefixOf prefix others.now
+        → result ≡ slice_cmp nat_cmp bytes.now others.now }
+{
+    if bytes.len().min(others.len()) <= PREFIX {
+        return bytes.len().cmp(&others.len());
+    }
+    let (_, rest) = bytes.split_at(PREFIX);
+    let (_, other_rest) = others.split_at(PREFIX);
+    rest.cmp(other_rest)
 }
 
 /// Writes a key as bytes: the table's number, then each value.
@@ -163,7 +194,10 @@ pub fn key_bytes(alloc: Global, key: &Key) -> Mem<KeyBytes>
     for part in key.parts.items() {
         push_part(&mut bytes, part)?;
     }
-    Ok(KeyBytes { bytes })
+    Ok(KeyBytes {
+        prefix: KeyPrefix::of(bytes.as_slice()),
+        bytes,
+    })
 }
 
 /// Writes the bytes of a key that fits its table, which is one of the schema's.

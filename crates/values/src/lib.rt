@@ -9,6 +9,7 @@ mod form;
 mod key;
 mod key_encoding;
 mod key_law;
+mod key_prefix;
 mod key_reading;
 mod law;
 mod period;
