@@ -43,4 +43,5 @@ class Package(unittest.TestCase):
         self.assertLessEqual(names, {
             "__future__", "argparse", "atexit", "bisect", "collections", "contextlib", "copy", "csv", "datetime", "decimal",
             "fcntl", "filecmp", "heapq", "html", "itertools", "json", "numbers", "operator", "os", "pathlib", "re", "readline",
-            "shutil", "signal", "socket", "subprocess", "sys", "tempfile", "threading", "time", "typing", "unicodedata", "uuid"})
+            "select", "shutil", "signal", "socket", "subprocess", "sys", "tempfile", "threading", "time", "typing",
+            "unicodedata", "uuid"})
