@@ -7,13 +7,12 @@ use Rattle.tokens.proofs.TokenFollows.{Moves}
 use Rattle.tokens.proofs.TokenGoing.{Usual, Reads, Then, Next, By, usual_weaker, usual_by, reads_then, reads_weaker, reads_either, nothing}
 use Rattle.tokens.proofs.PlaceSame.{Near, Within, within_then, Same, same_place, same_then, same_test, Tells, good_ok}
 use Rattle.tokens.proofs.TokenSame.{same_by, within_either}
-use Rattle.tokens.proofs.TokenProduction.{Begins, Token, Production, Any, ok_then, if_both, both_move, usual, begins_where, begins_either, no_longer, leaves, takes, takes_read, token_takes}
+use Rattle.tokens.proofs.TokenProduction.{Begins, Token, Production, Any, ok_then, if_both, both_move, usual, begins_where, begins_either, no_longer, leaves, takes, takes_read, token_takes, token_less}
 use Rattle.tokens.proofs.TokenProductionTurns.{Turn, by_turns}
 use Rattle.rows.specs.declared.declaration.Mark.{Mark}
 use Rattle.rows.specs.SchemaToken.{symbol_at}
 use Rattle.rows.specs.Declaration.{prepend, list_at, mark_at, is_mark_at, marks_upto, marks_at}
 use Rattle.rows.specs.SchemaGrammar.{Says, Symbol, Listed, Many, MarkWords}
-use Rattle.rows.proofs.SchemaSpelled.{said, symbol_found}
 use Rattle.rows.proofs.SchemaRead.{symbol_read}
 use Rattle.rows.proofs.SchemaTokenProduction.{Parting, texts_of, gaps, symbol_token}
 
@@ -102,12 +101,15 @@ module _ (mark : Production gaps MarkWords Any mark_at) (first : (m : Mark) (byt
 comma : Token gaps (Symbol 44 tt) (symbol_at 44)
 comma = symbol_token 44 refl
 
-comma_takes : (bytes rest : List ℕ) → Symbol 44 tt bytes rest → length rest < length bytes
+no_comma : Refused (symbol_at 44 [])
 unfolding symbol_after
-comma_takes = token_takes comma (record { at = []; is = refl })
+no_comma = record { at = []; is = refl }
+
+comma_takes : (bytes rest : List ℕ) → Symbol 44 tt bytes rest → length rest < length bytes
+comma_takes = token_takes comma no_comma
 
 comma_less : (bytes rest : List ℕ) → symbol_at 44 bytes ≡ Ok rest → length rest < length bytes
-comma_less bytes rest is = comma_takes bytes rest (said (symbol_at 44 bytes) rest (symbol_found 44 bytes) is)
+comma_less = token_less comma no_comma
 
 module _ {A : Type 0} {R : Says A} {C : List ℕ → Type 0} {item : List ℕ → Read A} (p : Production gaps R C item) (comma_ends : (bytes rest : List ℕ) → Symbol 44 tt bytes rest → C bytes) where
   abbrev on_comma : A → (List ℕ → Read (List A)) → List ℕ → After → Read (List A)

@@ -7,17 +7,18 @@ use Rattle.tokens.specs.Token.{After, Read, ◌>>=◌, prefix_while}
 use Rattle.tokens.specs.Token.{symbol_at as symbol_after}
 use Rattle.tokens.specs.Word.{is_name_byte}
 use Rattle.tokens.specs.Word.{is_word_at as is_word_after, word_at as word_after}
+use Rattle.tokens.proofs.WordCases.{Refused}
 use Rattle.tokens.proofs.TokenFollows.{Spelling, Moves}
 use Rattle.tokens.proofs.TokenGoing.{Reads, Then, Next, By, Last, usual_weaker, usual_by, reads_then, reads_weaker, after_then, nothing}
 use Rattle.tokens.proofs.PlaceSame.{Texts, Near, Within, within_then, within_after, within_if, Same, same_place, same_then, Tells, same_test, good_ok}
 use Rattle.tokens.proofs.TokenSame.{same_by}
-use Rattle.tokens.proofs.TokenProduction.{Begins, Token, Production, Empty, Or, ok_then, if_both, both_move, usual, begins_where, sound, no_longer, leaves, token_takes}
+use Rattle.tokens.proofs.TokenProduction.{Begins, Token, Production, Empty, Or, ok_then, if_both, both_move, usual, begins_where, sound, no_longer, leaves, token_takes, token_less}
 use Rattle.tokens.proofs.TokenProductionTurns.{Turn, by_turns}
 use Rattle.tokens.proofs.TokenNothingLeft.{Leaving, all_then}
 use Rattle.rows.specs.SchemaToken.{next, symbol_at}
 use Rattle.rows.specs.Declaration.{prepend, create_at, is_nothing, is_end_at, more_at, creates_upto, creates_at}
 use Rattle.rows.specs.SchemaGrammar.{Symbol, CreateText, IsEnd, SchemaText}
-use Rattle.rows.proofs.SchemaSpelled.{next_is, said, symbol_found}
+use Rattle.rows.proofs.SchemaSpelled.{next_is}
 use Rattle.rows.proofs.SchemaRead.{next_reads, symbol_read, word_is_at}
 use Rattle.rows.proofs.SchemaSame.{tells_end}
 use Rattle.rows.proofs.SchemaTokenProduction.{Parting, texts_of, gaps, symbol_token}
@@ -27,12 +28,15 @@ use Rattle.rows.proofs.DeclarationProduction.{create}
 semicolon : Token gaps (Symbol 59 tt) (symbol_at 59)
 semicolon = symbol_token 59 refl
 
-semicolon_takes : (bytes rest : List ℕ) → Symbol 59 tt bytes rest → length rest < length bytes
+no_semicolon : Refused (symbol_at 59 [])
 unfolding symbol_after
-semicolon_takes = token_takes semicolon (record { at = []; is = refl })
+no_semicolon = record { at = []; is = refl }
+
+semicolon_takes : (bytes rest : List ℕ) → Symbol 59 tt bytes rest → length rest < length bytes
+semicolon_takes = token_takes semicolon no_semicolon
 
 semicolon_less : (bytes rest : List ℕ) → symbol_at 59 bytes ≡ Ok rest → length rest < length bytes
-semicolon_less bytes rest is = semicolon_takes bytes rest (said (symbol_at 59 bytes) rest (symbol_found 59 bytes) is)
+semicolon_less = token_less semicolon no_semicolon
 
 -- ---- the end of a text
 

@@ -7,7 +7,6 @@ pub mod TokenGaps
 pub mod GoingOnMissing
 pub mod TokenGoing
 pub mod GrammarHolds
-pub mod GrammarLengths
 pub mod LineEnds
 pub mod MeaningFits
 pub mod MeaningOfLines

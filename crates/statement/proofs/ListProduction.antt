@@ -2,6 +2,7 @@
 use Rattle.std.proofs.Common.{◌≡◌, ◌≤◌, ◌<◌, ◌⊎◌, ℕ, List, [], ◌∷◌, ◌++◌, inl, inr, length, Ok, Err, refl, sym, ap, ◌∙◌, arith, subst}
 use Rattle.std.proofs.lemmas.List.{append-nil, append_assoc, length-append}
 use Rattle.tokens.specs.Token.{After, Read, ◌>>=◌}
+use Rattle.tokens.specs.Token.{symbol_at as symbol_after}
 use Rattle.statement.specs.List.{more_at, list_at, enclosed_at}
 use Rattle.statement.specs.Token.{symbol_at}
 use Rattle.statement.specs.Grammar.{Piece, ◌⋯◌, Empty, Symbol, Listed, Enclosed}
@@ -10,9 +11,8 @@ use Rattle.tokens.proofs.TokenFollows.{Moves}
 use Rattle.tokens.proofs.TokenGoing.{Reads, ReadsAfter, Then, Next, reads_then, reads_read, reads_weaker, reads_either, nothing}
 use Rattle.tokens.proofs.PlaceSame.{Texts, Near, IsPast, Within, WithinAfter, wider, within_then, Same, past, same_then, Good, good_ok, good_then}
 use Rattle.tokens.proofs.TokenSame.{GoodToken, same_by}
-use Rattle.tokens.proofs.TokenProduction.{Begins, Token, Production, Any, ok_then, begins_then, last}
+use Rattle.tokens.proofs.TokenProduction.{Begins, Token, Production, Any, ok_then, no_longer, token_takes, token_less, begins_then, last}
 use Rattle.tokens.proofs.TokenProductionParts.{skip, field, finish, alone}
-use Rattle.statement.proofs.GrammarLengths.{TakesSome, symbol_takes}
 use Rattle.statement.proofs.GrammarMoves.{list_moves}
 use Rattle.statement.proofs.TokenWhole.{next_symbol, symbol_refused}
 use Rattle.statement.proofs.TokenProduction.{texts_of, gaps, symbol}
@@ -76,9 +76,6 @@ module _ {A : Type 0} (S : Piece) (P : A → Piece) (separator : List ℕ → Af
 
 -- ---- a list of the grammar is read
 
-within : {P : Piece} → Moves P → (bytes rest : List ℕ) → P bytes rest → length rest ≤ length bytes
-within m bytes rest is = let a = m bytes rest is in omega (arith, ap length a.place, length-append a.taken rest)
-
 module _ {A : Type 0} (S : Piece) (P : A → Piece) where
   unjoined : (x : A) (xs : List A) (bytes rest : List ℕ) → Listed S P (x ∷ xs) bytes rest → (between : List ℕ) × (P x bytes between × More S P xs between rest)
   unjoined x [] bytes rest is = (rest, (is, refl))
@@ -89,12 +86,12 @@ module _ {A : Type 0} (S : Piece) (P : A → Piece) where
   module _ (separator : List ℕ → After) (item : List ℕ → Read A)
       (separator_whole : (bytes rest : List ℕ) → S bytes rest → separator bytes ≡ Ok rest)
       (item_whole : (x : A) (bytes rest : List ℕ) → P x bytes rest → item bytes ≡ Ok (x, rest))
-      (separator_takes : TakesSome S) (item_moves : (x : A) → Moves (P x)) where
+      (separator_takes : (bytes rest : List ℕ) → S bytes rest → length rest < length bytes) (item_moves : (x : A) → Moves (P x)) where
     long : (xs : List A) (bytes rest : List ℕ) → More S P xs bytes rest → length xs ≤ length bytes
     long [] bytes rest is = omega arith
     long (x ∷ xs) bytes rest is =
         let h = long xs is.1.1.0 rest is.1.1.1.1 in
-        omega (arith, separator_takes.below bytes is.0 is.1.0, within (item_moves x) is.0 is.1.1.0 is.1.1.1.0, h)
+        omega (arith, separator_takes bytes is.0 is.1.0, no_longer (item_moves x) is.0 is.1.1.0 is.1.1.1.0, h)
 
     more_whole : (xs : List A) (turns : List ℕ) (front : List A) (bytes rest : List ℕ) → length xs ≤ length turns → More S P xs bytes rest → Refused (separator rest)
         → more_at separator item turns front bytes ≡ Ok (front ++ xs, rest)
@@ -176,25 +173,25 @@ module _ {A : Type 0} (w : Texts) (separator : List ℕ → After) (item : List 
 
 -- ---- the productions
 
-found : {P : Piece} {bytes rest : List ℕ} (r : After) → ReadsAfter P bytes r → r ≡ Ok rest → P bytes rest
-found {P} {bytes} {rest} (Ok m) s is = subst (λ (l : List ℕ). P bytes l) (ap (λ (o : After). elim o as (λ _. List ℕ) [ Ok x ↦ x | Err x ↦ m ]) is) s.it
-found (Err at) s is = cc
-
 pub list : {A : Type 0} {S : Piece} {P : A → Piece} {R : List ℕ → After} {I : List ℕ → Read A}
-    → Token gaps S R → TakesSome S → Production gaps P Any I → Production gaps (Listed S P) (λ rest. Refused (R rest)) (list_at R I)
-list {A} {S} {P} {R} {I} t takes p = record {
+    → Token gaps S R → Refused (R []) → Production gaps P Any I → Production gaps (Listed S P) (λ rest. Refused (R rest)) (list_at R I)
+list {A} {S} {P} {R} {I} t none p = record {
   moves = list_moves t.moves p.moves;
   reads = list_reads S P R I t.moves p.moves t.reads p.reads;
   begins = λ bytes. begins_then (I bytes) _ (p.begins bytes) (λ x. begins_more R I p.begins x.1 (x.0 ∷ []) x.1);
-  whole = list_whole S P R I t.whole (λ x bytes rest is. p.whole x bytes rest is tt) takes p.moves;
-  same = λ s. good_list (texts_of s) R I (t.same s) (p.same s) (λ bytes rest is. takes.below bytes rest (found (R bytes) (t.reads bytes) is));
+  whole = list_whole S P R I t.whole (λ x bytes rest is. p.whole x bytes rest is tt) (token_takes t none) p.moves;
+  same = λ s. good_list (texts_of s) R I (t.same s) (p.same s) (token_less t none);
 }
+
+no_bytes : Refused (symbol_at 44 [])
+unfolding symbol_after
+no_bytes = record { at = []; is = refl }
 
 no_comma : (bytes rest : List ℕ) → Symbol 41 bytes rest → Refused (symbol_at 44 bytes)
 no_comma bytes rest is = symbol_refused 44 41 rest bytes (next_symbol 41 refl bytes rest is) refl
 
 pub commas : {A : Type 0} {P : A → Piece} {I : List ℕ → Read A} → Production gaps P Any I → Production gaps (Listed (Symbol 44) P) (λ rest. Refused (symbol_at 44 rest)) (list_at (symbol_at 44) I)
-commas p = list (symbol 44 refl) (symbol_takes 44) p
+commas p = list (symbol 44 refl) no_bytes p
 
 pub enclosed : {A : Type 0} {P : A → Piece} {I : List ℕ → Read A} → Production gaps P Any I → Production gaps (Enclosed P) Any (enclosed_at (symbol_at 44) I)
 enclosed p = alone (skip (symbol 40 refl) (field (λ xs. xs) (commas p) (λ xs bytes rest is f. no_comma bytes rest is) (λ xs. finish xs (tt, refl) (λ z k. k.1) (last xs (symbol 41 refl)))))

@@ -11,6 +11,7 @@ use Rattle.values.specs.declared.query.Set.{Set}
 use Rattle.statement.specs.declared.portion.Portion.{Portion}
 use Rattle.statement.specs.declared.statement.Statement.{Statement}
 use Rattle.statement.specs.declared.statement.Statement.TheVariants.{Begin, Insert, Update, Delete, Select, Commit, Rollback}
+use Rattle.tokens.specs.Word.{is_word_at as is_word_after, word_at as word_after}
 use Rattle.statement.specs.Token.{symbol_at, word_at, after_optional_word}
 use Rattle.statement.specs.Literal.{row_at, rows_at}
 use Rattle.statement.specs.Condition.{column_of, column_name_at, set_at, comparison_at, sets_at, comparisons_at, columns_at, keys_at}
@@ -18,7 +19,6 @@ use Rattle.statement.specs.Statement.{as_of_at, period_at, selection_at, system_
 use Rattle.statement.specs.Grammar.{Piece, ◌⋯◌, ◌∣◌, Empty, Symbol, Word, Listed, Enclosed, IsRow, IsInstant, IsForm, IsTable, IsColumn, IsSet, IsComparison, IsColumnList, IsWhere, IsPortion, IsStatement}
 use Rattle.tokens.proofs.WordCases.{Refused}
 use Rattle.tokens.proofs.TokenGoing.{Next, By, Last}
-use Rattle.statement.proofs.GrammarLengths.{word_takes}
 use Rattle.statement.proofs.StatementWhole.{Closing}
 use Rattle.statement.proofs.TokenWhole.{other_word_refused, symbol_refused_at_word, begun}
 use Rattle.tokens.proofs.TokenProduction.{Production, Any, Or, alike, closing, choice, optional, peek, ok, by, after, last}
@@ -35,6 +35,10 @@ row = enclosed literal
 rows : Production gaps (Listed (Symbol 44) IsRow) (λ rest. Refused (symbol_at 44 rest)) rows_at
 unfolding rows_at
 rows = commas row
+
+no_and : Refused (word_at (codes "AND") [])
+unfolding word_after is_word_after
+no_and = record { at = []; is = refl }
 
 -- ---- FOR SYSTEM_TIME
 
@@ -110,7 +114,7 @@ module _ (schema : Schema) where
 
     comparisons : Production gaps (Listed (Word (codes "AND")) (IsComparison schema number)) (λ rest. Refused (word_at (codes "AND") rest)) (comparisons_at schema number)
     unfolding comparisons_at
-    comparisons = list (word (codes "AND") refl) (word_takes (codes "AND") (lit< tt)) comparison
+    comparisons = list (word (codes "AND") refl) no_and comparison
 
     abbrev KeysOf : List Comparison → Keys
     KeysOf cs = record { table = number; comparisons = cs }

@@ -139,6 +139,9 @@ module _ {gaps : Gaps} where
       clash : {at : List ℕ} → R [] ≡ Ok [] → R [] ≡ Err at → ⊥
       clash e f = cc
 
+  pub token_less : {P : Spelling} {R : List ℕ → After} → Token gaps P R → Refused (R []) → (bytes rest : List ℕ) → R bytes ≡ Ok rest → length rest < length bytes
+  token_less {P} t none bytes rest is = let s : ReadsAfter P bytes (Ok rest) = subst (ReadsAfter P bytes) is (t.reads bytes) in token_takes t none bytes rest s.it
+
   pub takes : {A : Type 0} {P : A → Spelling} {C : List ℕ → Type 0} {R : List ℕ → Read A} → Production gaps P C R → C [] → Refused (R []) → (x : A) (bytes rest : List ℕ) → P x bytes rest → length rest < length bytes
   takes {P = P} {R = R} p end none x = taken_less (p.moves x) (λ is. clash (p.whole x [] [] is end) none.is)
     where
