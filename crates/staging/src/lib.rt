@@ -15,4 +15,4 @@ mod write;
 pub use keyed_net::{KeyedChange, KeyedNet};
 pub use net::Net;
 pub use staged::Staged;
-pub use tsbtree::{Tree, View};
+pub use tsbtree::{LeafCopy, Tree, View};

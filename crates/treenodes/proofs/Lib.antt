@@ -22,3 +22,4 @@ pub mod ReplacementParents
 pub mod ReplacementKept
 pub mod SplitData
 pub mod SplitIndex
+pub mod LeafCopyPast

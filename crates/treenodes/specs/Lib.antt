@@ -8,4 +8,5 @@ pub mod Lookup
 pub mod Event
 pub mod Split
 pub mod Root
+pub mod LeafCopy
 pub mod Law

@@ -4,6 +4,7 @@
 mod backlog;
 mod event;
 mod law;
+mod leaf_copy;
 mod lookup;
 mod node;
 mod nodes;
@@ -14,6 +15,7 @@ mod split;
 
 pub use event::with_event;
 pub use law::{maps_are_read_off, meeting_references_are_one};
+pub use leaf_copy::{LeafCopy, with_copy};
 pub use lookup::{current_at, leaf_at, way};
 pub use node::{Child, Slot};
 pub use nodes::Nodes;

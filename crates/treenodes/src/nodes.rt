@@ -111,6 +111,17 @@ impl Nodes {
         Ok(Nodes { slots, backlog })
     }
 
+    /// The nodes with an equal one in the place of one.
+    pub(crate) fn with_equal(self, number: usize, slot: Slot) -> Mem<Nodes>
+        requires { slice_get self number ≡ Some slot }
+        ensures ok { IfOk result (λ s. s ≡ self) }
+        ensures err { OnlyMemory result }
+    {
+        let Nodes { mut slots, backlog } = self;
+        slots.set(number, slot)?;
+        Ok(Nodes { slots, backlog })
+    }
+
     /// The nodes with another in the place of one.
     pub(crate) fn with_slot(self, number: usize, slot: Slot) -> Mem<Nodes>
         requires { number < length self }

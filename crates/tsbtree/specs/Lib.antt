@@ -1,5 +1,6 @@
 pub mod View
 pub mod Leaf
+pub mod Copy
 pub mod Growth
 pub mod Packing
 pub use Rattle.treegrowth.specs as treegrowth

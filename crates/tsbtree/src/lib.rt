@@ -7,4 +7,5 @@ mod tree;
 mod view;
 
 pub use tree::Tree;
+pub use treenodes::LeafCopy;
 pub use view::View;

@@ -7,10 +7,12 @@ ghost use Rattle.treegrowth.specs.Commit.{IsCommit};
 ghost use Rattle.treegrowth.specs.Leaves.{halves_upto};
 ghost use Rattle.treegrowth.specs.Places.{SplitsOverfull};
 ghost use Rattle.treenodes.specs.History.{KeepsHistory, KeepsPast};
+ghost use Rattle.treenodes.specs.LeafCopy.{IsCopyIn};
 ghost use Rattle.treewalk.specs.RangeChange.{event_since_in};
 ghost use Rattle.tsbtree.specs.View.{events, last, IsEmpty, IsState};
 ghost use Rattle.tsbtree.specs.Growth.{Adds, HoldsSame, IsSplitAt};
 ghost use Rattle.tsbtree.specs.Packing.{IsInstalled};
+ghost use Rattle.tsbtree.specs.Copy.{IsCopyOf};
 
 use crate::packing::number_of_node;
 use crate::view::View;
@@ -20,23 +22,29 @@ use keyrange::KeyRange;
 use std::alloc::Global;
 use std::marker::Model;
 use treegrowth::{key_split, time_split, with_commit};
-use treenodes::{Nodes, leaf_alone, with_block};
+use treenodes::{LeafCopy, Nodes, leaf_alone, with_block, with_copy};
 use values::{Event, Instant, KeyBytes, Mem};
 
 /// The tree of all changes. A change makes new nodes aside and puts them in place at once, so views
-/// stay as they are.
+/// stay as they are. Beside the nodes at most one copy of a data node is kept, which is equal to it: the
+/// next commit changes the copy, which no view shares. Contracts see the nodes alone.
 #[derive(Drop)]
 pub struct Tree {
     alloc: Global,
     view: View,
+    copy: Option<LeafCopy>,
 }
 
 impl Model for Tree {
     ghost use Rattle.tsbtree.specs.View.{TreeState};
+    ghost use Rattle.std.specs.Prelude.{IfSome};
+    ghost use Rattle.treenodes.specs.LeafCopy.{IsCopyIn};
 
     ghost Value = { TreeState };
 
     ghost view = { λ t. t.view };
+
+    ghost invariant = { λ t. IfSome t.copy (IsCopyIn t.view.nodes) };
 }
 
 impl Tree {
@@ -47,7 +55,11 @@ impl Tree {
         ensures err { OnlyMemory result }
     {
         let view = View::of(alloc, leaf_alone(alloc)?, 0);
-        Ok(Tree { alloc, view })
+        Ok(Tree {
+            alloc,
+            view,
+            copy: None,
+        })
     }
 
     /// Returns what was committed until now, to be read.
@@ -59,6 +71,7 @@ impl Tree {
         let Tree {
             alloc: _alloc,
             view,
+            copy: _copy,
         } = self;
         view.sound()
     }
@@ -98,10 +111,23 @@ impl Tree {
         if changes.is_empty() {
             return Ok(());
         }
-        let nodes = self.view.nodes().share()?;
+        let nodes = share_with(self.alloc, self.view.nodes(), self.copy.take())?;
         let nodes = with_commit(self.alloc, nodes, self.view.last(), instant, changes)?;
         self.view = View::of(self.alloc, nodes, instant);
         Ok(())
+    }
+
+    /// Keeps a copy of a data node, which was made at an instant, for the next commit, if no event has
+    /// come to the node since; else it is given back. What was committed, and each node, is what it was.
+    pub fn take_copy(&mut self, copy: LeafCopy, instant: Instant) -> Option<LeafCopy>
+        requires { IsCopyOf self.old instant copy }
+        ensures { self.new ≡ self.old }
+    {
+        if !copy.fits(self.view.nodes(), instant) {
+            return Some(copy);
+        }
+        self.copy = Some(copy);
+        None
     }
 
     /// Splits the current data node of a key there. False where the node begins at the key; then,
@@ -154,6 +180,7 @@ impl Tree {
         };
         let nodes = self.view.nodes().share()?;
         let nodes = with_block(self.alloc, nodes, number, block)?;
+        self.copy = None;
         self.view = View::of(self.alloc, nodes, last);
         Ok(true)
     }
@@ -168,9 +195,24 @@ impl Tree {
         match nodes {
             None => false,
             Some(nodes) => {
+                self.copy = None;
                 self.view = View::of(self.alloc, nodes, last);
                 true
             }
         }
+    }
+}
+
+/// A share of the nodes, with a copy in the place of its node, where there is one. `Memory` where it
+/// runs out.
+fn share_with(alloc: Global, nodes: &Nodes, copy: Option<LeafCopy>) -> Mem<Nodes>
+    requires { IfSome copy (IsCopyIn nodes.now) }
+    ensures ok { IfOk result (λ s. s ≡ nodes.now) }
+    ensures err { OnlyMemory result }
+{
+    let nodes = nodes.share()?;
+    match copy {
+        None => Ok(nodes),
+        Some(copy) => with_copy(alloc, nodes, copy),
     }
 }

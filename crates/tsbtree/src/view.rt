@@ -10,6 +10,7 @@ ghost use Rattle.datanode.specs.Node.{Node};
 ghost use Rattle.blocks.specs.Block.{HasBlock};
 ghost use Rattle.treenodes.specs.Node.{TreeNode, data_node};
 ghost use Rattle.treenodes.specs.Backlog.{IsFirstWaiting, IsWaiting};
+ghost use Rattle.treenodes.specs.LeafCopy.{IsCopyIn};
 ghost use Rattle.treenodes.specs.Sound.{IsSound};
 ghost use Rattle.treenodes.specs.Tree.{IsTree};
 ghost use Rattle.datanode.specs.NextChange.{event_after};
@@ -26,7 +27,7 @@ use datanode::DataNode;
 use keyrange::{KeyRange, Rect};
 use std::alloc::Global;
 use std::marker::Model;
-use treenodes::{Child, Nodes, leaf_at};
+use treenodes::{Child, LeafCopy, Nodes, leaf_at};
 use treewalk::{
     Shape, changed_in, changed_since, events, has_row_in, key_window, next_change, row_in,
     standing, tree_shape,
@@ -61,7 +62,7 @@ impl View {
     }
 
     /// Returns the view, whose nodes are a sound tree.
-    pub(crate) fn sound(&self) -> &View
+    pub fn sound(&self) -> &View
         ensures is { result.now ≡ self.now }
         ensures sound { IsState self.now.nodes (last self.now) }
     {
@@ -143,6 +144,14 @@ impl View {
         let (number, _visits) = leaf_at(nodes, key, instant);
         let is_there = has_row_in(self.alloc, nodes.at(number).child(), key, instant)?;
         Ok(is_there)
+    }
+
+    /// Copies the current data node of a key, for a commit that changes it. `Memory` where it runs out.
+    pub fn leaf_copy(&self, key: &KeyBytes) -> Mem<LeafCopy>
+        ensures ok { IfOk result (IsCopyIn self.now.nodes) }
+        ensures err { OnlyMemory result }
+    {
+        LeafCopy::new(self.nodes(), key)
     }
 
     /// Returns the instant of a key's last event above `start`, if there is one.

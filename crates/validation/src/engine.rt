@@ -9,6 +9,7 @@ ghost use Rattle.values.specs.Memory.{OnlyMemory};
 ghost use Rattle.staging.specs.treenodes.History.{KeepsHistory, KeepsPast};
 ghost use Rattle.staging.specs.tsbtree.View.{events, last, IsEmpty, IsState};
 ghost use Rattle.staging.specs.View.{Holds, Adds};
+ghost use Rattle.staging.specs.tsbtree.Copy.{IsCopyOf};
 ghost use Rattle.staging.specs.tsbtree.Growth.{HoldsSame};
 ghost use Rattle.staging.specs.tsbtree.Packing.{IsInstalled};
 ghost use Rattle.validation.specs.Conflict.{end_by};
@@ -18,7 +19,7 @@ use crate::conflict::first_conflict;
 use crate::cut::Cut;
 use crate::packed_node::PackedNode;
 use commitclock::Clock;
-use staging::{KeyedNet, Tree, View};
+use staging::{KeyedNet, LeafCopy, Tree, View};
 use std::alloc::Global;
 use std::marker::Model;
 use values::{Instant, Key, Mem, Refusal, Schema};
@@ -173,6 +174,16 @@ impl Engine {
     {
         let (node, block) = packed.into_parts();
         self.tree.install(&node, block)
+    }
+
+    /// Keeps a copy of a data node, which was made at an instant, if no change has come to the node
+    /// since: the next one is written into the copy. Else the copy is given back. Nothing else has
+    /// changed.
+    pub fn take_copy(&mut self, copy: LeafCopy, instant: Instant) -> Option<LeafCopy>
+        requires { IsCopyOf self.old instant copy }
+        ensures { self.new ≡ self.old }
+    {
+        self.tree.take_copy(copy, instant)
     }
 
     /// Adds net changes at an instant after the last, as `validate` answers it. Only nodes that

@@ -11,4 +11,4 @@ pub use cut::Cut;
 pub use engine::Engine;
 pub use job::{Job, find_job};
 pub use packed_node::{PackedNode, pack_job};
-pub use staging::{KeyedNet, Net, Tree, View};
+pub use staging::{KeyedNet, LeafCopy, Net, Tree, View};
