@@ -1,4 +1,5 @@
 pub mod Book
+pub mod Copy
 pub mod Ending
 pub mod Outcomes
 pub mod Refusal

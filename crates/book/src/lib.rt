@@ -5,6 +5,7 @@ mod begin;
 mod book;
 mod closing;
 mod commit;
+mod copy;
 mod install;
 mod outcomes;
 mod refusal;
@@ -16,4 +17,6 @@ pub use closing::Closed;
 pub use journal::{Begun, Entry, JournalGone, Receipt, SharedEntry};
 pub use refusal::BookRefusal;
 pub use transaction::{BlockCache, OpenTransaction, listing_of};
-pub use validation::{Cut, Engine, Job, KeyedNet, Net, PackedNode, View, find_job, pack_job};
+pub use validation::{
+    Cut, Engine, Job, KeyedNet, LeafCopy, Net, PackedNode, View, find_job, pack_job,
+};

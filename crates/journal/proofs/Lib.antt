@@ -1,2 +1,3 @@
 pub mod JournalNumbering
 pub mod JournalPushing
+pub mod LegalViews

@@ -165,8 +165,8 @@ impl<J: StoreName> Journal<J> {
         )
     }
 
-    /// Whether a receipt's entry is known to stand at its number. No entry is looked at.
-    fn has(&self, receipt: &Receipt<J>) -> bool
+    /// Tells whether a receipt's entry is known to be the one at its number. No entry is looked at.
+    pub fn has(&self, receipt: &Receipt<J>) -> bool
         ensures { result ≡ true →
             entry_at self.now.entries receipt.now.number ≡ Some receipt.now.entry }
     {

@@ -58,6 +58,11 @@ impl<J: StoreName> Account<J> {
         Ok(())
     }
 
+    /// Returns the receipt that was taken last.
+    pub(crate) fn last(&self) -> Option<&Receipt<J>> {
+        self.receipts.last()
+    }
+
     /// Keeps the receipts of an answer, for which there is room, and what the book refused it for.
     pub(crate) fn keep(&mut self, answer: Answer<J>)
         requires { HasRoomFor answer self.old }

@@ -5,16 +5,18 @@ ghost use Rattle.serving.specs.Serving.{IsStepped};
 
 use crate::answer::{Answer, Sent};
 use growlog::StoreName;
-use sessions::{LockedStore, Readings, Session};
+use sessions::{LockedStore, Readings, Receipt, Session};
 use std::sync::Wait;
 use steps::Reply;
 use values::Refusal;
 
-/// Ends the session's transaction, if one is open, by the next reading of the clock.
+/// Ends the session's transaction, if one is open, by the next reading of the clock. `last` is the
+/// receipt that was taken last, which often is that of the begin.
 pub(crate) fn take_commit<J: StoreName, R: Wait, C: Readings>(
     rt: &R,
     store: &LockedStore<J>,
     session: &mut Session,
+    last: Option<&Receipt<J>>,
     readings: &mut C,
 ) -> Answer<J>
     requires { session.old.schema ≡ J.origin.schema }
@@ -24,7 +26,7 @@ pub(crate) fn take_commit<J: StoreName, R: Wait, C: Readings>(
     if session.start().is_none() {
         return Answer::reply(Reply::Refused(Refusal::NoTransaction));
     }
-    match store.commit_lent(rt, session, readings) {
+    match store.commit_lent(rt, session, last, readings) {
         Ok(receipt) => Answer::with_receipt(receipt, Sent::Ending),
         Err(refusal) => Answer::refusal(refusal),
     }

@@ -14,7 +14,7 @@ use crate::service::Service;
 use crate::split::{take_key_split, take_time_split};
 use crate::write::take_write;
 use growlog::StoreName;
-use sessions::{Gate, LockedStore, Readings, Session, StoreRefusal};
+use sessions::{Gate, LockedStore, Readings, Receipt, Session, StoreRefusal};
 use std::alloc::Global;
 use std::sync::Wait;
 use steps::{Reply, Step, key_misfit};
@@ -43,6 +43,7 @@ pub(crate) fn answer_step<J: StoreName, R: Wait, C: Readings, G: Gate>(
         service.alloc,
         service.store,
         session,
+        account.last(),
         readings,
         step,
     )
@@ -77,6 +78,7 @@ fn take_step<J: StoreName, R: Wait, C: Readings>(
     alloc: Global,
     store: &LockedStore<J>,
     session: &mut Session,
+    last: Option<&Receipt<J>>,
     readings: &mut C,
     step: &Step,
 ) -> Answer<J>
@@ -95,7 +97,7 @@ fn take_step<J: StoreName, R: Wait, C: Readings>(
             take_write(session, Write::DeletePortion(keys, *span))
         }
         Step::Select(_, form, keys) => take_query(rt, store, session, *form, keys),
-        Step::Commit(_, _) => take_commit(rt, store, session, readings),
+        Step::Commit(_, _) => take_commit(rt, store, session, last, readings),
         Step::Rollback(_) => take_rollback(session),
         Step::AddColumn(_, _, _, _) => { Answer::reply(Reply::Refused(Refusal::TransactionsOpen)) }
         Step::SplitKey(key) => take_key_split(rt, alloc, store, session, key),

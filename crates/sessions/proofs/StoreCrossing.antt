@@ -11,6 +11,7 @@ use Rattle.slots.specs.contracts.slots.Slots as Slots
 use Rattle.slots.proofs.trie.Trie.TheLaws.TheKnot as knot
 use Rattle.book.specs.treenodes.contracts.node.Slot as Slot
 use Rattle.book.proofs.treenodes.node.Slot.TheSendSync as slot
+use Rattle.book.proofs.treenodes.leaf_copy.LeafCopy.TheSendSync as leaf_copy
 use Rattle.book.specs.treenodes.contracts.nodes.Nodes as Nodes
 use Rattle.book.specs.tsbtree.contracts.tree.Tree as Tree
 use Rattle.book.specs.tsbtree.contracts.view.View as View
@@ -76,7 +77,7 @@ session_send = search (session_transaction_send, schema.the_send, cache.the_send
 -- ---- what stands under the lock
 
 tree_send : IsSend Tree.the_row
-tree_send = search (view_send, sendable, plain) depth 60 fits 20000
+tree_send = search (view_send, leaf_copy.the_send, sendable, plain) depth 60 fits 20000
 
 engine_send : IsSend Engine.the_row
 engine_send = search (tree_send, sendable, plain) depth 60 fits 20000

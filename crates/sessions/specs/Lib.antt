@@ -1,6 +1,7 @@
 pub mod SessionState
 pub mod Refusal
 pub mod Store
+pub mod Copy
 pub mod OfHistory
 pub mod StoreOfHistory
 pub use Rattle.book.specs as book

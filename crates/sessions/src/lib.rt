@@ -2,6 +2,7 @@
 #![tactic(auto)]
 
 mod commit;
+mod copy;
 mod gate;
 mod law;
 mod read;

@@ -12,6 +12,7 @@ ghost use Rattle.sessions.specs.declared.refusal.StoreRefusal.TheVariants as ref
 ghost use Rattle.sessions.specs.Refusal.{OnlyBook, OnlyBookRoom};
 ghost use Rattle.sessions.specs.Store.{IsBegun, IsCommitted, IsCommittedBy, IsInstallOf, IsSplitOf};
 
+use crate::copy::{leaf_copy, take_copy};
 use crate::readings::Readings;
 use crate::refusal::StoreRefusal;
 use crate::session::Session;
@@ -254,11 +255,13 @@ impl<J: StoreName> LockedStore<J> {
     /// where the clock does not run back, it is no earlier than the clock was when any earlier call on
     /// the store returned. `NoTransaction` where none is open, or none at this store,
     /// `JournalFull` where there is no room for one more entry. After a refusal nothing has changed,
-    /// and the transaction is still open.
+    /// and the transaction is still open. With the receipt of its begin, a commit of one row has the node
+    /// that it changes copied before the lock is taken.
     pub fn commit_lent<R: Wait, C: Readings>(
         &self,
         rt: &R,
         session: &mut Session,
+        begin: Option<&Receipt<J>>,
         readings: &mut C,
     ) -> Result<Receipt<J>, StoreRefusal>
         requires { session.old.schema ≡ J.origin.schema }
@@ -270,11 +273,14 @@ impl<J: StoreName> LockedStore<J> {
     {
         let (net, changes) = session.nets()?;
         let turn = self.turn(rt, changes.changes().len());
+        let copy = leaf_copy(begin, &changes)?;
         let mut book = self.locked(rt);
+        let unused = take_copy(&mut *book, begin, copy);
         let reading = readings.reading();
         let ended = session.commit_at(&mut *book, net, changes, reading);
         drop(book);
         drop(turn);
+        drop(unused);
         Ok(ended?.into_receipt())
     }
 
