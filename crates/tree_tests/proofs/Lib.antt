@@ -1,1 +1,1 @@
-mod BlockSampleHalves
+mod SampleHalves

@@ -1,5 +1,5 @@
 //! What views answer, as numbers.
-use crate::growth::key;
+use crate::sample::row_key;
 use blocks::InPlace;
 use keyrange::KeyRange;
 use std::alloc::Global;
@@ -38,7 +38,7 @@ pub(crate) fn count_in_window(
     first: Instant,
     last: Instant,
 ) -> usize {
-    let key = key(rt, alloc, number);
+    let key = row_key(rt, alloc, number);
     let range = all_keys(alloc);
     if !range.contains(&key) {
         return usize::MAX;
@@ -58,7 +58,7 @@ pub(crate) fn number_in_row(
     number: u8,
     at: Instant,
 ) -> (Option<i64>, usize) {
-    let key = key(rt, alloc, number);
+    let key = row_key(rt, alloc, number);
     let (row, visits) = view.get(&key, at).expect(rt, "there is memory");
     let is_there = view.has_row(&key, at).expect(rt, "there is memory");
     assert!(rt; is_there == row.is_some());
@@ -83,7 +83,7 @@ pub(crate) fn answers(
     number: u8,
     at: Instant,
 ) -> Answers {
-    let key = key(rt, alloc, number);
+    let key = row_key(rt, alloc, number);
     (
         number_in_row(rt, alloc, view, number, at).0,
         view.changed_since(&key, at),

@@ -1,7 +1,8 @@
 //! Nodes and blocks that the tests share.
 ghost use Rattle.std.specs.Prelude.{◌≡◌, length};
 
-use blocks::{has_block, pack, unpack};
+use crate::sample::{part_before, row_key};
+use blocks::{Block, has_block, pack, unpack};
 use bytes::Bytes;
 use datanode::DataNode;
 use keyrange::{KeyRange, Rect, TimeRange};
@@ -81,6 +82,24 @@ pub(crate) fn in_form_1(rt: &impl Abort, alloc: Global, block: &[u8]) -> Vec<u8>
     bytes
 }
 
+/// The block that bytes are, if they are one.
+pub(crate) fn found_block(rt: &impl Abort, alloc: Global, bytes: &[u8]) -> Option<Block> {
+    let bytes = Vec::from_slice(alloc, bytes).expect(rt, "there is memory");
+    let bytes = Bytes::from_vec(bytes).expect(rt, "there is memory");
+    Block::from_bytes(alloc, bytes).expect(rt, "there is memory")
+}
+
+/// The block that bytes are.
+pub(crate) fn block_of(rt: &impl Abort, alloc: Global, bytes: &[u8]) -> Block {
+    found_block(rt, alloc, bytes).expect(rt, "the bytes are a block")
+}
+
+/// The block of form 1 of the node of a block of form 2.
+pub(crate) fn old_block_of(rt: &impl Abort, alloc: Global, block: &Block) -> Block {
+    let bytes = in_form_1(rt, alloc, block.bytes().as_slice());
+    block_of(rt, alloc, bytes.as_slice())
+}
+
 /// The block of a node that has one.
 pub(crate) fn pack_of(rt: &impl Abort, alloc: Global, node: &DataNode) -> Bytes {
     if !has_block(node) {
@@ -103,12 +122,6 @@ pub(crate) fn is_block_of(rt: &impl Abort, alloc: Global, bytes: &[u8], node: &D
 pub(crate) fn is_block(rt: &impl Abort, alloc: Global, bytes: &[u8]) -> Option<bool> {
     let node = unpack(alloc, bytes).expect(rt, "there is memory")?;
     Some(is_block_of(rt, alloc, bytes, &node))
-}
-
-/// The key of a table's row whose key is this number.
-pub(crate) fn key(rt: &impl Abort, alloc: Global, number: u8) -> KeyBytes {
-    let bytes = vec![in alloc; 1, 128, 0, 0, 0, 0, 0, 0, number];
-    KeyBytes::new(bytes.expect(rt, "there is memory")).expect(rt, "nine bytes are few")
 }
 
 pub(crate) fn event(
@@ -136,8 +149,8 @@ pub(crate) fn current(rt: &impl Abort, alloc: Global) -> DataNode {
 /// A node of the keys from a number on and below another, from 1 on.
 pub(crate) fn node_between(rt: &impl Abort, alloc: Global, from: u8, to: u8) -> DataNode {
     let keys = KeyRange {
-        lo: key(rt, alloc, from),
-        hi: Some(key(rt, alloc, to)),
+        lo: row_key(rt, alloc, from),
+        hi: Some(row_key(rt, alloc, to)),
     };
     node_of(rt, alloc, keys)
 }
@@ -171,7 +184,7 @@ pub(crate) fn put_row(
     at: Instant,
 ) {
     let values = ann(rt, alloc);
-    let key = key(rt, alloc, number);
+    let key = row_key(rt, alloc, number);
     put(rt, node, event(rt, key, at, Some(values)));
 }
 
@@ -183,34 +196,13 @@ pub(crate) fn put_deletion(
     number: u8,
     at: Instant,
 ) {
-    let key = key(rt, alloc, number);
+    let key = row_key(rt, alloc, number);
     put(rt, node, event(rt, key, at, None));
-}
-
-/// The part of a node before an instant.
-pub(crate) fn part_before(rt: &impl Abort, node: &DataNode, instant: Instant) -> DataNode {
-    let halves = node.rect().cut_time(instant);
-    let halves = halves.expect(rt, "there is memory");
-    let (past, _now) = halves.expect(rt, "the instant is inside");
-    node.part(past).expect(rt, "there is memory")
-}
-
-/// The part of a node before an instant.
-pub(crate) fn before(rt: &impl Abort, node: DataNode, instant: Instant) -> DataNode {
-    part_before(rt, &node, instant)
-}
-
-/// The part of a node from an instant on.
-pub(crate) fn since(rt: &impl Abort, node: &DataNode, instant: Instant) -> DataNode {
-    let halves = node.rect().cut_time(instant);
-    let halves = halves.expect(rt, "there is memory");
-    let (_past, now) = halves.expect(rt, "the instant is inside");
-    node.part(now).expect(rt, "there is memory")
 }
 
 /// The node whose block was worked out by hand.
 pub(crate) fn first_node(rt: &impl Abort, alloc: Global) -> DataNode {
     let mut node = current(rt, alloc);
     put_row(rt, alloc, &mut node, 1, 100);
-    before(rt, node, 200)
+    part_before(rt, &node, 200)
 }

@@ -1,20 +1,20 @@
 //! Which bytes are blocks, and of which nodes.
 
 use crate::block_sample::{
-    before, blocks, carrying_block, current, event, first_block, first_node, is_block, is_block_of,
-    old_carrying_block, old_first_block, pack_of, put, put_deletion, put_row, since,
+    blocks, carrying_block, current, event, first_block, first_node, is_block, is_block_of,
+    old_carrying_block, old_first_block, pack_of, put, put_deletion, put_row,
 };
+use crate::sample::{part_before, since};
 use blocks::{event_count, has_block, unpack};
 use bytes::Bytes;
 use datanode::DataNode;
 use std::alloc::Global;
 use std::process::Abort;
-use values::{Chars, Event, KeyBytes, Value};
+use values::{Chars, KeyBytes, Value};
 
 /// Whether the node whose block was worked out by hand has that block.
 fn has_first_block(rt: &impl Abort, alloc: Global) -> bool {
-    let node = first_node(rt, alloc);
-    is_block_of(rt, alloc, first_block(), &node)
+    is_block_of(rt, alloc, first_block(), &first_node(rt, alloc))
 }
 
 /// Whether the node of the first block, in form 1, is that of the first block.
@@ -27,10 +27,9 @@ fn reads_old_first_block(rt: &impl Abort, alloc: Global) -> bool {
 #[test]
 fn a_node_is_packed_to_its_61_bytes_and_read_back(rt: HostRuntime) {
     assert!(rt; first_block().len() == 61 && first_block().starts_with(b"TSB2\x02"));
-    assert!(rt; has_first_block(&rt, rt.alloc()));
-    assert!(rt; is_block(&rt, rt.alloc(), first_block()) == Some(true));
     assert!(rt; old_first_block().len() == 60);
-    assert!(rt; reads_old_first_block(&rt, rt.alloc()));
+    assert!(rt; has_first_block(&rt, rt.alloc()) && reads_old_first_block(&rt, rt.alloc()));
+    assert!(rt; is_block(&rt, rt.alloc(), first_block()) == Some(true));
 }
 
 /// How many widths, stated in the place of a block's own, leave a block of a node; None where one
@@ -93,23 +92,14 @@ fn count_changed(rt: &impl Abort, alloc: Global, block: &[u8]) -> Option<usize> 
 
 #[test]
 fn a_changed_byte_leaves_no_block_or_that_of_another_node(rt: HostRuntime) {
-    assert!(rt; count_changed(&rt, rt.alloc(), first_block()) == Some(6803));
-    assert!(rt; count_changed(&rt, rt.alloc(), carrying_block()) == Some(13153));
-}
-
-#[test]
-fn a_changed_byte_of_form_1_leaves_no_block_or_that_of_another_node(rt: HostRuntime) {
-    assert!(rt; count_changed(&rt, rt.alloc(), old_first_block()) == Some(6803));
-    assert!(rt; count_changed(&rt, rt.alloc(), old_carrying_block()) == Some(13153));
-}
-
-#[test]
-fn a_block_that_is_cut_off_is_none(rt: HostRuntime) {
-    for block in blocks() {
-        for length in 0..block.len() {
-            let found = is_block(&rt, rt.alloc(), block.split_at(length).0);
-            assert!(rt; found.is_none(), "at {length}");
-        }
+    for (block, count) in [
+        (first_block(), 6803),
+        (carrying_block(), 13153),
+        (old_first_block(), 6803),
+        (old_carrying_block(), 13153),
+    ] {
+        let found = count_changed(&rt, rt.alloc(), block);
+        assert!(rt; found == Some(count), "of {count}");
     }
 }
 
@@ -151,18 +141,21 @@ fn with(rt: &impl Abort, alloc: Global, bytes: &[u8], more: &[u8]) -> Vec<u8> {
     all
 }
 
-/// Whether a block with bytes behind it is a block, and then that of the node that it is read as.
-fn is_block_with(rt: &impl Abort, alloc: Global, block: &[u8], more: &[u8]) -> Option<bool> {
-    let bytes = with(rt, alloc, block, more);
-    is_block(rt, alloc, bytes.as_slice())
+/// Whether a block that is cut off, and one with bytes behind it, is none.
+fn is_whole(rt: &impl Abort, alloc: Global, block: &[u8]) -> bool {
+    for length in 0..block.len() {
+        if is_block(rt, alloc, block.split_at(length).0).is_some() {
+            return false;
+        }
+    }
+    is_block(rt, alloc, &with(rt, alloc, block, &[0])).is_none()
+        && is_block(rt, alloc, &with(rt, alloc, block, block)).is_none()
 }
 
 #[test]
-fn nothing_may_follow_a_block(rt: HostRuntime) {
+fn a_block_that_is_cut_off_is_none_and_nothing_may_follow_it(rt: HostRuntime) {
     for block in blocks() {
-        for more in [&[0], block] {
-            assert!(rt; is_block_with(&rt, rt.alloc(), block, more).is_none());
-        }
+        assert!(rt; is_whole(&rt, rt.alloc(), block));
     }
 }
 
@@ -195,20 +188,6 @@ fn events_must_be_in_order(rt: HostRuntime) {
     assert!(rt; is_broken(&rt, rt.alloc(), (79, 124, 144)), "instants");
 }
 
-/// A node upto 300 with a row of 100 and a deletion of 150.
-fn past_node(rt: &impl Abort, alloc: Global) -> DataNode {
-    let mut node = current(rt, alloc);
-    put_row(rt, alloc, &mut node, 1, 100);
-    put_deletion(rt, alloc, &mut node, 2, 150);
-    before(rt, node, 300)
-}
-
-/// A node from 200 to 300 with a row of 100; a deletion of 150 is not in it.
-fn carrying_node(rt: &impl Abort, alloc: Global) -> DataNode {
-    let node = past_node(rt, alloc);
-    since(rt, &node, 200)
-}
-
 /// How many bytes and how many events the block of a node has, which must be read back.
 fn sizes(rt: &impl Abort, alloc: Global, node: &DataNode) -> (usize, usize) {
     let packed = pack_of(rt, alloc, node);
@@ -217,9 +196,13 @@ fn sizes(rt: &impl Abort, alloc: Global, node: &DataNode) -> (usize, usize) {
     (block.len(), event_count(block))
 }
 
-/// How many events the node with a carried row has, and the sizes of its block.
+/// How many events a node from 200 to 300 has, to which a row of 100 is carried, and a deletion of
+/// 150 is not; and the sizes of its block.
 fn sizes_of_carrying(rt: &impl Abort, alloc: Global) -> (usize, (usize, usize)) {
-    let node = carrying_node(rt, alloc);
+    let mut node = current(rt, alloc);
+    put_row(rt, alloc, &mut node, 1, 100);
+    put_deletion(rt, alloc, &mut node, 2, 150);
+    let node = since(rt, &part_before(rt, &node, 300), 200);
     (node.len(), sizes(rt, alloc, &node))
 }
 
@@ -234,53 +217,35 @@ fn node_of(rt: &impl Abort, alloc: Global, count: u64) -> DataNode {
     for at in 1..=count {
         put_deletion(rt, alloc, &mut node, 7, at);
     }
-    before(rt, node, 200)
+    part_before(rt, &node, 200)
 }
 
-/// How many events the block of a node has; None where it has no block.
-fn count_packed(rt: &impl Abort, alloc: Global, node: &DataNode) -> Option<usize> {
-    if !has_block(node) {
+/// How many events the block of a node of so many events has; None where it has no block.
+fn count_packed(rt: &impl Abort, alloc: Global, count: u64) -> Option<usize> {
+    let node = node_of(rt, alloc, count);
+    if !has_block(&node) {
         return None;
     }
-    let (_bytes, events) = sizes(rt, alloc, node);
-    Some(events)
-}
-
-/// The same of a node of so many events.
-fn count_packed_of(rt: &impl Abort, alloc: Global, count: u64) -> Option<usize> {
-    let node = node_of(rt, alloc, count);
-    count_packed(rt, alloc, &node)
-}
-
-/// Whether a node without an end has a block.
-fn has_current_block(rt: &impl Abort, alloc: Global) -> bool {
-    let node = current(rt, alloc);
-    has_block(&node)
+    Some(sizes(rt, alloc, &node).1)
 }
 
 #[test]
 fn a_block_has_at_most_64_events(rt: HostRuntime) {
     for (count, packed) in [(0, Some(0)), (63, Some(63)), (64, Some(64)), (65, None)] {
-        let found = count_packed_of(&rt, rt.alloc(), count);
+        let found = count_packed(&rt, rt.alloc(), count);
         assert!(rt; found == packed, "{count} events");
     }
-    assert!(rt; !has_current_block(&rt, rt.alloc()));
+    assert!(rt; !has_block(&current(&rt, rt.alloc())));
 }
 
-/// A text of 1,000 letters.
-fn long_text(rt: &impl Abort, alloc: Global) -> Value {
-    let mut text = String::new(alloc);
-    for _ in 0..1000 {
-        text.push('a').expect(rt, "there is memory");
-    }
-    Value::Text(Chars::new(text))
-}
-
+/// 16 texts of 1,000 letters.
 fn long_values(rt: &impl Abort, alloc: Global) -> Vec<Value> {
+    let letters = [b'a'; 1000];
+    let letters = str::from_utf8(&letters).unwrap_or("");
     let mut values = Vec::new(alloc);
     for _ in 0..16 {
-        let text = long_text(rt, alloc);
-        values.push(text).expect(rt, "there is memory");
+        let text = Chars::copy_of(alloc, letters).expect(rt, "there is memory");
+        values.push(Value::Text(text)).expect(rt, "there is memory");
     }
     values
 }
@@ -294,17 +259,16 @@ fn many(rt: &impl Abort, alloc: Global, count: usize) -> Vec<u8> {
     bytes
 }
 
-fn long_event(rt: &impl Abort, alloc: Global) -> Event {
-    let values = long_values(rt, alloc);
+/// The block of a node with one event of the longest key and the longest row.
+fn longest_block(rt: &impl Abort, alloc: Global) -> Bytes {
     let key = KeyBytes::new(many(rt, alloc, 1609)).expect(rt, "the key is short enough");
-    event(rt, key, 1, Some(values))
-}
-
-/// A node with one event of the longest key and the longest row.
-fn longest(rt: &impl Abort, alloc: Global) -> DataNode {
     let mut node = current(rt, alloc);
-    put(rt, &mut node, long_event(rt, alloc));
-    before(rt, node, 999_999_999_999_999_999)
+    put(
+        rt,
+        &mut node,
+        event(rt, key, 1, Some(long_values(rt, alloc))),
+    );
+    pack_of(rt, alloc, &part_before(rt, &node, 999_999_999_999_999_999))
 }
 
 /// The bytes of a block that tell how long its first key is, where its range of keys has no end.
@@ -313,12 +277,6 @@ fn key_length(block: &[u8]) -> Option<(u8, u8)> {
         return None;
     }
     Some((block[25], block[26]))
-}
-
-/// The block of the node with the longest key and the longest row.
-fn longest_block(rt: &impl Abort, alloc: Global) -> Bytes {
-    let node = longest(rt, alloc);
-    pack_of(rt, alloc, &node)
 }
 
 /// Whether a block is as long as that block, is read back, and begins with a key of 1,609 bytes.
@@ -348,17 +306,13 @@ fn with_key_of(rt: &impl Abort, alloc: Global, length: usize) -> Vec<u8> {
     bytes
 }
 
-/// Whether the first block with a key of so many bytes is a block, and then that of the node that
-/// it is read as.
-fn is_block_with_key_of(rt: &impl Abort, alloc: Global, length: usize) -> Option<bool> {
-    let bytes = with_key_of(rt, alloc, length);
-    is_block(rt, alloc, bytes.as_slice())
-}
-
 #[test]
 fn a_key_of_1610_bytes_is_in_no_block(rt: HostRuntime) {
     for (length, stands) in [(1609, Some(true)), (1610, None)] {
-        let found = is_block_with_key_of(&rt, rt.alloc(), length);
-        assert!(rt; found == stands, "{length} bytes");
+        let bytes = with_key_of(&rt, rt.alloc(), length);
+        assert!(rt;
+            is_block(&rt, rt.alloc(), &bytes) == stands,
+            "{length} bytes"
+        );
     }
 }

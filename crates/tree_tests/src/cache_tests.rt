@@ -1,8 +1,7 @@
 //! What is asked of a cache, block after block.
 
-use crate::block_sample::in_form_1;
+use crate::block_sample::{block_of, old_block_of};
 use blocks::{Block, BlockCache, Blocks, InPlace};
-use bytes::Bytes;
 use keyrange::KeyRange;
 use std::alloc::Global;
 use std::process::Abort;
@@ -10,19 +9,12 @@ use values::{Instant, KeyBytes};
 
 /// The block of all keys from an instant to another, with one event: key 1 has a row of one number
 /// from `at` on.
-fn block_of(rt: &impl Abort, alloc: Global, from: u8, to: u8, at: u8) -> Block {
+fn block_between(rt: &impl Abort, alloc: Global, from: u8, to: u8, at: u8) -> Block {
     let bytes = &[
         84, 83, 66, 50, 1, 0, 0, 0, 0, 0, 0, 0, 0, 0, 0, from, 0, 0, 0, 0, 0, 0, 0, to, 1, 0, 9, 1,
         128, 0, 0, 0, 0, 0, 0, 1, 0, 0, 0, 0, 0, 0, 0, at, 1, 1, 1, 0, 0, 0, 0, 0, 0, 0, 7,
     ];
-    block_of_bytes(rt, alloc, bytes)
-}
-
-/// The block that bytes are.
-fn block_of_bytes(rt: &impl Abort, alloc: Global, bytes: &[u8]) -> Block {
-    let bytes = Bytes::copy_from_slice(alloc, bytes).expect(rt, "there is memory");
-    let block = Block::from_bytes(alloc, bytes).expect(rt, "there is memory");
-    block.expect(rt, "the bytes are a block")
+    block_of(rt, alloc, bytes)
 }
 
 /// The keys from the key of one byte on.
@@ -59,7 +51,7 @@ fn event_of_block<B: Blocks>(
     lower: u8,
     since: Instant,
 ) -> Option<Instant> {
-    let block = block_of(rt, alloc, from, to, at);
+    let block = block_between(rt, alloc, from, to, at);
     let range = keys_from(rt, alloc, lower);
     event_between(blocks, &block, &range, since, u64::MAX)
 }
@@ -131,13 +123,6 @@ fn a_block_gives_the_range_that_is_asked_for(rt: HostRuntime) {
     assert!(rt; kept == 5 && in_place == 5 && cache.len() == 1);
 }
 
-/// A block of form 1: that of the block of these instants.
-fn old_block_of(rt: &impl Abort, alloc: Global, from: u8, to: u8, at: u8) -> Block {
-    let block = block_of(rt, alloc, from, to, at);
-    let bytes = in_form_1(rt, alloc, block.bytes().as_slice());
-    block_of_bytes(rt, alloc, bytes.as_slice())
-}
-
 /// The instant of the one event that is given of a block; of form 1, where the turn is odd.
 fn event_of_turn<B: Blocks>(
     rt: &impl Abort,
@@ -145,11 +130,10 @@ fn event_of_turn<B: Blocks>(
     alloc: Global,
     turn: u8,
 ) -> Option<Instant> {
-    let block = if turn % 2 == 0 {
-        block_of(rt, alloc, 1, 3, 2)
-    } else {
-        old_block_of(rt, alloc, 1, 3, 2)
-    };
+    let mut block = block_between(rt, alloc, 1, 3, 2);
+    if turn % 2 == 1 {
+        block = old_block_of(rt, alloc, &block);
+    }
     let range = keys_from(rt, alloc, 0);
     event_between(blocks, &block, &range, 0, u64::MAX)
 }

@@ -1,9 +1,8 @@
 //! Blocks of a history made at random, with two bytes of each changed at once.
 ghost use Rattle.std.specs.Prelude.{◌≤◌, ◌<◌};
 
-use crate::block_sample::{
-    current, event, in_form_1, is_block, key, node_between, pack_of, part_before, put, since,
-};
+use crate::block_sample::{current, event, in_form_1, is_block, node_between, pack_of, put};
+use crate::sample::{part_before, row_key, since};
 use datanode::DataNode;
 use std::alloc::Global;
 use std::process::Abort;
@@ -60,7 +59,7 @@ fn values(rt: &impl Abort, alloc: Global, numbers: &mut Numbers) -> Vec<Value> {
 
 /// A row of one of eight keys, or the deletion of one.
 fn change(rt: &impl Abort, alloc: Global, numbers: &mut Numbers, at: Instant) -> Event {
-    let key = key(rt, alloc, numbers.below(8) as u8);
+    let key = row_key(rt, alloc, numbers.below(8) as u8);
     if numbers.below(5) == 0 {
         return event(rt, key, at, None);
     }

@@ -22,34 +22,32 @@ fn event(rt: &impl Abort, alloc: Global) -> Event {
 
 fn is_that(event: &Event) -> bool {
     let is_key = event.key().bytes() == b"\x01\x02".as_slice();
-    let values = event.row().map(|row| row.values().len());
-    is_key && event.at() == 100 && values == Some(1)
-}
-
-fn copy_is_that(rt: &impl Abort, alloc: Global) -> bool {
-    let copied = event(rt, alloc).copy().expect(rt, "there is memory");
-    is_that(&copied)
-}
-
-#[test]
-fn a_copied_event_is_equal(rt: HostRuntime) {
-    assert!(rt; copy_is_that(&rt, rt.alloc()));
+    match event.row() {
+        None => false,
+        Some(row) => is_key && event.at() == 100 && row.values().len() == 1,
+    }
 }
 
 fn share_of(rt: &impl Abort, alloc: Global, event: Event) -> SharedEvent {
     SharedEvent::new(alloc, event).expect(rt, "there is memory")
 }
 
-/// Whether a shared event and its share are that event.
-fn shares_are_that(rt: &impl Abort, alloc: Global) -> (bool, bool) {
-    let first = share_of(rt, alloc, event(rt, alloc));
+/// Whether a copy of an event, a shared event and its share are that event.
+fn copies_are_that(rt: &impl Abort, alloc: Global) -> (bool, bool, bool) {
+    let event = event(rt, alloc);
+    let copied = event.copy().expect(rt, "there is memory");
+    let first = share_of(rt, alloc, event);
     let second = first.share().expect(rt, "there is memory");
-    (is_that(first.event()), is_that(second.event()))
+    (
+        is_that(&copied),
+        is_that(first.event()),
+        is_that(second.event()),
+    )
 }
 
 #[test]
-fn a_shared_event_is_the_same(rt: HostRuntime) {
-    assert!(rt; shares_are_that(&rt, rt.alloc()) == (true, true));
+fn an_event_that_is_copied_or_shared_is_the_same(rt: HostRuntime) {
+    assert!(rt; copies_are_that(&rt, rt.alloc()) == (true, true, true));
 }
 
 /// The number of the one value of a row that is shown.
@@ -62,7 +60,7 @@ fn number_of(row: &ShownRow) -> Option<i64> {
 
 /// What is shown of an event with a row, or of one that deletes it.
 fn shown_of(rt: &impl Abort, alloc: Global, has_row: bool) -> Option<i64> {
-    let row = has_row.then_some(()).map(|_| row(rt, alloc));
+    let row = if has_row { Some(row(rt, alloc)) } else { None };
     let event = Event::new(key(rt, alloc, b"\x01\x02"), 100, row);
     let event = share_of(rt, alloc, event.expect(rt, "the key is not empty"));
     let shown = ShownRow::of_event(&event).expect(rt, "there is memory");

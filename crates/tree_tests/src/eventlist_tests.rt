@@ -11,7 +11,7 @@ use eventlist::{
 use keyrange::KeyRange;
 use std::alloc::Global;
 use std::process::Abort;
-use values::{Instant, KeyBytes, SharedEvent};
+use values::{Event, Instant, KeyBytes, SharedEvent};
 
 /// The key of a table's row whose key is this number.
 fn bytes(rt: &impl Abort, alloc: Global, table: u8, number: u8) -> KeyBytes {
@@ -65,57 +65,46 @@ fn some(rt: &impl Abort, alloc: Global) -> Vec<SharedEvent>
     events
 }
 
-/// The places before a key of table 1 and behind it.
-fn key_places(rt: &impl Abort, alloc: Global, number: u8) -> (usize, usize) {
-    let events = some(rt, alloc);
-    let key = bytes(rt, alloc, 1, number);
-    (place_of_key(&events, &key), place_behind_key(&events, &key))
+/// The instant of an event; 0 where there is none.
+fn instant_of(event: Option<&Event>) -> Instant {
+    match event {
+        None => 0,
+        Some(event) => event.at(),
+    }
 }
 
-/// The place after the events of key 1 of table 1 until an instant, and the key's last change if it
-/// is later.
-fn place_and_change_after(
-    rt: &impl Abort,
-    alloc: Global,
-    instant: Instant,
-) -> (usize, Option<Instant>) {
+/// The places before a key, behind it and after its events until an instant; when it was last
+/// changed, if that is later, and the instants of its last event until then and of its last one.
+type Found = (usize, usize, usize, Option<Instant>, Instant, Instant);
+
+fn found_of_key(rt: &impl Abort, alloc: Global, number: u8, at: Instant) -> Found {
     let events = some(rt, alloc);
-    let key = bytes(rt, alloc, 1, 1);
-    let place = place_after(&events, &key, instant);
-    (place, event_since(&events, &key, instant))
+    let key = bytes(rt, alloc, 1, number);
+    (
+        place_of_key(&events, &key),
+        place_behind_key(&events, &key),
+        place_after(&events, &key, at),
+        event_since(&events, &key, at),
+        instant_of(event_until(&events, &key, at)),
+        instant_of(last_event(&events, &key)),
+    )
 }
 
 #[test]
 fn places_are_before_and_behind_a_key(rt: HostRuntime) {
-    assert!(rt; key_places(&rt, rt.alloc(), 1) == (0, 2));
-    for (instant, place, change) in [(199, 1, Some(200)), (200, 2, None)] {
-        let found = place_and_change_after(&rt, rt.alloc(), instant);
-        assert!(rt; found == (place, change), "after {instant}");
+    for (number, at, found) in [
+        (1, 99, (0, 2, 0, Some(200), 0, 200)),
+        (1, 100, (0, 2, 1, Some(200), 100, 200)),
+        (1, 199, (0, 2, 1, Some(200), 100, 200)),
+        (1, 200, (0, 2, 2, None, 200, 200)),
+        (2, 149, (2, 3, 2, Some(150), 0, 150)),
+        (3, 200, (3, 3, 3, None, 0, 0)),
+    ] {
+        assert!(rt;
+            found_of_key(&rt, rt.alloc(), number, at) == found,
+            "at {at}"
+        );
     }
-}
-
-/// The instant of the last event of key 1 of table 1 until another; 0 where it has none.
-fn last_until(rt: &impl Abort, alloc: Global, at: Instant) -> Instant {
-    let events = some(rt, alloc);
-    match event_until(&events, &bytes(rt, alloc, 1, 1), at) {
-        Some(event) => event.at(),
-        None => 0,
-    }
-}
-
-/// The instant of that key's last event.
-fn last(rt: &impl Abort, alloc: Global) -> Instant {
-    let events = some(rt, alloc);
-    let event = last_event(&events, &bytes(rt, alloc, 1, 1));
-    event.expect(rt, "there is an event").at()
-}
-
-#[test]
-fn a_keys_last_event_is_found_by_its_instant(rt: HostRuntime) {
-    for (at, found) in [(99, 0), (100, 100), (199, 100), (200, 200)] {
-        assert!(rt; last_until(&rt, rt.alloc(), at) == found, "at {at}");
-    }
-    assert!(rt; last(&rt, rt.alloc()) == 200);
 }
 
 /// The place of the second event.
@@ -125,78 +114,71 @@ fn second_place(events: &[SharedEvent]) -> Option<usize>
     Some(place_of(events, events.get(1)?.event()))
 }
 
-/// The place of the second event, and how many events there are with another at its point, and with
-/// one more after it.
-fn second_and_counts(rt: &impl Abort, alloc: Global) -> (Option<usize>, usize, usize) {
-    let mut events = some(rt, alloc);
-    let second = second_place(&events);
-    put(rt, alloc, &mut events, 1, 1, 200, true);
-    let count = events.len();
-    put(rt, alloc, &mut events, 1, 1, 201, true);
-    (second, count, events.len())
-}
-
 #[test]
 fn an_event_takes_the_place_of_one_of_its_point(rt: HostRuntime) {
-    assert!(rt; second_and_counts(&rt, rt.alloc()) == (Some(1), 4, 5));
+    let mut events = some(&rt, rt.alloc());
+    let second = second_place(&events);
+    put(&rt, rt.alloc(), &mut events, 1, 1, 200, true);
+    let count = events.len();
+    put(&rt, rt.alloc(), &mut events, 1, 1, 201, true);
+    assert!(rt; (second, count, events.len()) == (Some(1), 4, 5));
 }
 
-/// How many events there are of key 2 of table 1 and above, from an instant to another.
-fn count_listed(rt: &impl Abort, alloc: Global, from: Instant, to: Instant) -> usize {
+/// How many events a range has, how many rows at an instant, and how many events from another to it.
+fn counts_in(
+    rt: &impl Abort,
+    alloc: Global,
+    range: KeyRange,
+    from: Instant,
+    at: Instant,
+) -> (usize, usize, usize) {
     let events = some(rt, alloc);
-    let range = KeyRange {
+    (
+        of_range(&events, &range).len(),
+        count(rt, standing(alloc, &events, &range, at)),
+        count(rt, events_in(alloc, &events, &range, from, at)),
+    )
+}
+
+/// The keys of table 1 from 2 on, and of table 2.
+fn keys_from_2(rt: &impl Abort, alloc: Global) -> KeyRange {
+    KeyRange {
         lo: bytes(rt, alloc, 1, 2),
         hi: None,
-    };
-    count(rt, events_in(alloc, &events, &range, from, to))
-}
-
-#[test]
-fn events_of_a_range_are_listed(rt: HostRuntime) {
-    assert!(rt; count_listed(&rt, rt.alloc(), 1, 150) == 2);
-    assert!(rt; count_listed(&rt, rt.alloc(), 51, 149) == 0);
-}
-
-/// How many rows of table 1 there are at an instant.
-fn count_standing(rt: &impl Abort, alloc: Global, at: Instant) -> usize {
-    let events = some(rt, alloc);
-    let range = keys_of_table(rt, alloc, 1);
-    count(rt, standing(alloc, &events, &range, at))
+    }
 }
 
 fn first_is_overtaken(events: &[SharedEvent], at: Instant) -> Option<bool> {
     Some(is_overtaken(events.get(0)?.event(), at, events.get(1)))
 }
 
-/// Whether the first event is overtaken at 199 and at 200.
-fn is_overtaken_at_both(rt: &impl Abort, alloc: Global) -> (Option<bool>, Option<bool>) {
-    let events = some(rt, alloc);
-    (
-        first_is_overtaken(&events, 199),
-        first_is_overtaken(&events, 200),
-    )
-}
-
 #[test]
 fn rows_stand_until_the_next_event_of_their_key(rt: HostRuntime) {
-    for (at, count) in [(99, 0), (100, 1), (150, 2), (199, 2), (200, 1)] {
-        assert!(rt; count_standing(&rt, rt.alloc(), at) == count, "at {at}");
+    let alloc = rt.alloc();
+    for (table, from, at, counts) in [
+        (0u8, 0, 200, (0, 0, 0)),
+        (1, 0, 99, (3, 0, 0)),
+        (1, 0, 100, (3, 1, 1)),
+        (1, 101, 150, (3, 2, 1)),
+        (1, 0, 199, (3, 2, 2)),
+        (1, 100, 200, (3, 1, 3)),
+        (2, 50, 50, (1, 1, 1)),
+    ] {
+        let found = counts_in(&rt, alloc, keys_of_table(&rt, alloc, table), from, at);
+        assert!(rt; found == counts, "at {at}");
     }
-    assert!(rt; is_overtaken_at_both(&rt, rt.alloc()) == (Some(false), Some(true)));
-}
-
-fn count_of_table(rt: &impl Abort, alloc: Global, table: u8) -> usize {
-    let events = some(rt, alloc);
-    let range = keys_of_table(rt, alloc, table);
-    of_range(&events, &range).len()
+    assert!(rt; counts_in(&rt, alloc, keys_from_2(&rt, alloc), 1, 150) == (2, 2, 2));
+    assert!(rt; counts_in(&rt, alloc, keys_from_2(&rt, alloc), 51, 149) == (2, 1, 0));
 }
 
 #[test]
-fn the_events_of_a_range_stand_together(rt: HostRuntime) {
-    for (table, count) in [(0u8, 0), (1, 3), (2, 1)] {
-        let found = count_of_table(&rt, rt.alloc(), table);
-        assert!(rt; found == count, "of table {table}");
-    }
+fn an_event_is_overtaken_at_the_next_of_its_key(rt: HostRuntime) {
+    let events = some(&rt, rt.alloc());
+    let found = (
+        first_is_overtaken(&events, 199),
+        first_is_overtaken(&events, 200),
+    );
+    assert!(rt; found == (Some(false), Some(true)));
 }
 
 /// How many events the first key has, how many of them until 199, and how many events other keys
@@ -211,18 +193,9 @@ fn first_key_sizes(events: &[SharedEvent]) -> Option<(usize, usize, usize)>
     Some((first.len(), place_until(first, 199), others.len()))
 }
 
-fn sizes(rt: &impl Abort, alloc: Global) -> Option<(usize, usize, usize)> {
-    first_key_sizes(&some(rt, alloc))
-}
-
 #[test]
 fn a_list_is_split_behind_its_first_key(rt: HostRuntime) {
-    assert!(rt; sizes(&rt, rt.alloc()) == Some((2, 1, 2)));
-}
-
-fn share(rt: &impl Abort, events: &[SharedEvent], place: usize) -> SharedEvent {
-    let event = events.get(place).expect(rt, "the place is inside");
-    event.share().expect(rt, "there is memory")
+    assert!(rt; first_key_sizes(&some(&rt, rt.alloc())) == Some((2, 1, 2)));
 }
 
 /// The events at places, in that order.
@@ -234,8 +207,9 @@ fn at_places(
 ) -> Vec<SharedEvent> {
     let mut found = Vec::new(alloc);
     for place in places {
-        let done = found.push(share(rt, events, *place));
-        done.expect(rt, "there is memory");
+        let event = events.get(*place).expect(rt, "the place is inside");
+        let event = event.share().expect(rt, "there is memory");
+        found.push(event).expect(rt, "there is memory");
     }
     found
 }
@@ -250,8 +224,7 @@ fn are_all_when_sorted(rt: &impl Abort, alloc: Global, places: &[usize]) -> bool
 
 #[test]
 fn events_of_several_lists_are_put_in_order_once_each(rt: HostRuntime) {
-    let places = [3, 1, 0, 2, 1, 3];
-    assert!(rt; are_all_when_sorted(&rt, rt.alloc(), places.as_slice()));
+    assert!(rt; are_all_when_sorted(&rt, rt.alloc(), &[3, 1, 0, 2, 1, 3]));
 }
 
 /// How many events a key of table 1 has above an instant, up to another, and where they begin.
@@ -269,8 +242,8 @@ fn count_of_key(
     (found.len(), place)
 }
 
-/// A key, an instant, another, and how many events of the key are above the first up to the other,
-/// and where they begin.
+/// A key of table 1, an instant, another, and how many events of the key are above the first up to
+/// the other, and where they begin.
 const SPANS: &[(u8, Instant, Instant, (usize, usize))] = &[
     (1, 0, u64::MAX, (2, 0)),
     (1, 100, 200, (1, 1)),
@@ -284,31 +257,23 @@ const SPANS: &[(u8, Instant, Instant, (usize, usize))] = &[
 #[test]
 fn the_events_of_a_key_are_those_of_a_span(rt: HostRuntime) {
     for near in [0, 1, 2, 3, 4, 5, usize::MAX] {
-        for (number, after, last, count) in SPANS {
+        for (number, after, last, span) in SPANS {
             let found = count_of_key(&rt, rt.alloc(), *number, *after, *last, near);
-            assert!(rt;
-                found == *count,
-                "key {number} above {after} up to {last} near {near}"
-            );
+            assert!(rt; found == *span, "key {number} above {after} near {near}");
         }
     }
 }
 
-/// Adds six changes of a key of table 1, at 10, 20 and so on.
-fn add_changes(rt: &impl Abort, alloc: Global, events: &mut Vec<SharedEvent>, number: u8) {
-    for at in [10, 20, 30, 40, 50, 60] {
-        let event = change(rt, alloc, bytes(rt, alloc, 1, number), at, true);
-        events.push(event).expect(rt, "there is memory");
-    }
-}
-
-/// Six changes of each of these keys of table 1.
+/// Six changes of each of these keys of table 1, at 10, 20 and so on.
 fn changes_of(rt: &impl Abort, alloc: Global, numbers: &[u8]) -> Vec<SharedEvent>
     ensures { IsStrictlySortedBy event_cmp result.items }
 {
     let mut events = Vec::new(alloc);
     for number in numbers {
-        add_changes(rt, alloc, &mut events, *number);
+        for at in [10, 20, 30, 40, 50, 60] {
+            let event = change(rt, alloc, bytes(rt, alloc, 1, *number), at, true);
+            events.push(event).expect(rt, "there is memory");
+        }
     }
     sort_events(&mut events).expect(rt, "there is memory");
     events
@@ -339,45 +304,32 @@ fn is_place_in(
     is_place(&events, &bytes(rt, alloc, 1, number), instant, place)
 }
 
-/// A key, an instant, and the place after them among six changes of each of the keys 2, 4 and 6.
-const PLACES: &[(u8, Instant, usize)] = &[
-    (1, u64::MAX, 0),
-    (2, 0, 0),
-    (2, 9, 0),
-    (2, 10, 1),
-    (2, 39, 3),
-    (2, 60, 6),
-    (3, 30, 6),
-    (4, 0, 6),
-    (4, 10, 7),
-    (4, 30, 9),
-    (4, u64::MAX, 12),
-    (5, 10, 12),
-    (6, 49, 16),
-    (6, 50, 17),
-    (6, 60, 18),
-    (7, 0, 18),
+/// Keys with six changes each, a key, an instant, and the place after them among the changes.
+const PLACES: &[(&[u8], u8, Instant, usize)] = &[
+    (&[2, 4, 6], 1, u64::MAX, 0),
+    (&[2, 4, 6], 2, 0, 0),
+    (&[2, 4, 6], 2, 9, 0),
+    (&[2, 4, 6], 2, 10, 1),
+    (&[2, 4, 6], 2, 39, 3),
+    (&[2, 4, 6], 2, 60, 6),
+    (&[2, 4, 6], 3, 30, 6),
+    (&[2, 4, 6], 4, 0, 6),
+    (&[2, 4, 6], 4, 10, 7),
+    (&[2, 4, 6], 4, 30, 9),
+    (&[2, 4, 6], 4, u64::MAX, 12),
+    (&[2, 4, 6], 5, 10, 12),
+    (&[2, 4, 6], 6, 49, 16),
+    (&[2, 4, 6], 6, 50, 17),
+    (&[2, 4, 6], 6, 60, 18),
+    (&[2, 4, 6], 7, 0, 18),
+    (&[], 1, 10, 0),
+    (&[], 2, 10, 0),
 ];
 
 #[test]
 fn a_place_is_found_from_each_place_nearby(rt: HostRuntime) {
-    for (number, instant, place) in PLACES {
-        let numbers = [2, 4, 6];
-        let is_found = is_place_in(
-            &rt,
-            rt.alloc(),
-            numbers.as_slice(),
-            *number,
-            *instant,
-            *place,
-        );
+    for (numbers, number, instant, place) in PLACES {
+        let is_found = is_place_in(&rt, rt.alloc(), numbers, *number, *instant, *place);
         assert!(rt; is_found, "key {number} at {instant}");
-    }
-}
-
-#[test]
-fn each_place_in_an_empty_list_is_its_start(rt: HostRuntime) {
-    for number in [1, 2] {
-        assert!(rt; is_place_in(&rt, rt.alloc(), [].as_slice(), number, 10, 0));
     }
 }

@@ -4,23 +4,18 @@ ghost use Rattle.values.specs.Commits.{max_instant};
 ghost use Rattle.treegrowth.specs.Commit.{IsCommit};
 ghost use Rattle.tsbtree.specs.View.{last};
 
+use crate::sample::row_key;
 use std::alloc::Global;
 use std::process::Abort;
 use tsbtree::Tree;
-use values::{Event, Instant, KeyBytes, MAX_INSTANT, Row, Value};
-
-pub(crate) fn key(rt: &impl Abort, alloc: Global, number: u8) -> KeyBytes {
-    let bytes = vec![in alloc; 1, 128, 0, 0, 0, 0, 0, 0, number];
-    let key = KeyBytes::new(bytes.expect(rt, "there is memory"));
-    key.expect(rt, "nine bytes are few")
-}
+use values::{Event, Instant, MAX_INSTANT, Row, Value};
 
 fn row(rt: &impl Abort, alloc: Global, value: i64) -> Option<Row> {
     Row::new(vec![in alloc; Value::Int(value)].expect(rt, "there is memory"))
 }
 
 fn event(rt: &impl Abort, alloc: Global, number: u8, at: Instant, row: Option<Row>) -> Event {
-    let made = Event::new(key(rt, alloc, number), at, row);
+    let made = Event::new(row_key(rt, alloc, number), at, row);
     made.expect(rt, "the key is not empty")
 }
 
@@ -98,13 +93,13 @@ pub(crate) fn split_at(
     number: u8,
     at: Instant,
 ) -> bool {
-    let done = tree.time_split(&key(rt, alloc, number), at);
+    let done = tree.time_split(&row_key(rt, alloc, number), at);
     done.expect(rt, "there is memory")
 }
 
 /// Splits the current data node of a key there, where it can be.
 pub(crate) fn split_before(rt: &impl Abort, alloc: Global, tree: &mut Tree, number: u8) -> bool {
-    let done = tree.key_split(&key(rt, alloc, number));
+    let done = tree.key_split(&row_key(rt, alloc, number));
     done.expect(rt, "there is memory")
 }
 

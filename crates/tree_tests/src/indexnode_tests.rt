@@ -151,12 +151,9 @@ fn halves_by_key<C: Share + Drop>(
 }
 
 /// The numbers below both halves.
-fn digits_of(halves: (IndexNode<usize>, IndexNode<usize>)) -> (usize, usize) {
-    (digits(&halves.0), digits(&halves.1))
-}
-
 fn digits_by_key(rt: &impl Abort, alloc: Global) -> (usize, usize) {
-    digits_of(halves_by_key(rt, alloc, &numbers(rt, alloc)))
+    let (low, high) = halves_by_key(rt, alloc, &numbers(rt, alloc));
+    (digits(&low), digits(&high))
 }
 
 #[test]
@@ -164,39 +161,35 @@ fn both_halves_of_a_split_by_key_have_what_crosses_it(rt: HostRuntime) {
     assert!(rt; digits_by_key(&rt, rt.alloc()) == (12, 13));
 }
 
-/// The halves at the least start of a current reference.
-fn halves_by_time(
-    rt: &impl Abort,
-    node: &IndexNode<usize>,
-) -> (IndexNode<usize>, IndexNode<usize>) {
+/// The numbers below both halves at the least start of a current reference.
+fn digits_by_time(rt: &impl Abort, node: &IndexNode<usize>) -> (usize, usize) {
     let Some(cut) = node.least_current_start() else {
         panic!(rt; "there is a current reference")
     };
     let time = node.rect().time();
     assert!(rt; time.from < cut && time.to.is_none());
-    node.split_time(cut).expect(rt, "there is memory")
-}
-
-fn digits_by_time(rt: &impl Abort, alloc: Global) -> (usize, usize) {
-    digits_of(halves_by_time(rt, &numbers(rt, alloc)))
+    let (past, now) = node.split_time(cut).expect(rt, "there is memory");
+    (digits(&past), digits(&now))
 }
 
 /// The least start of a current reference, how many of these there are, and how many stay at 200
-/// and at 199.
-fn counts(rt: &impl Abort, alloc: Global) -> (Option<Instant>, usize, usize, usize) {
+/// and at 199; and the numbers below both halves at that start.
+type Counts = (Option<Instant>, usize, usize, usize, (usize, usize));
+
+fn counts(rt: &impl Abort, alloc: Global) -> Counts {
     let node = numbers(rt, alloc);
     (
         node.least_current_start(),
         node.current_count(),
         node.stay_count(200),
         node.stay_count(199),
+        digits_by_time(rt, &node),
     )
 }
 
 #[test]
 fn a_split_by_time_parts_the_past_from_the_current_ones(rt: HostRuntime) {
-    assert!(rt; counts(&rt, rt.alloc()) == (Some(200), 2, 2, 3));
-    assert!(rt; digits_by_time(&rt, rt.alloc()) == (1, 23));
+    assert!(rt; counts(&rt, rt.alloc()) == (Some(200), 2, 2, 3, (1, 23)));
 }
 
 /// Whether two halves at 100 took the place of a reference of all keys from 1 to an instant.
@@ -268,14 +261,10 @@ fn sums(node: &IndexNode<Leaf>) -> (u64, usize) {
     (names, packed)
 }
 
-fn leaf_halves(rt: &impl Abort, alloc: Global) -> (IndexNode<Leaf>, IndexNode<Leaf>) {
-    halves_by_key(rt, alloc, &leaves(rt, alloc))
-}
-
 /// The sums of both halves at the middle key.
 fn sums_by_key(rt: &impl Abort, alloc: Global) -> ((u64, usize), (u64, usize)) {
-    let halves = leaf_halves(rt, alloc);
-    (sums(&halves.0), sums(&halves.1))
+    let (low, high) = halves_by_key(rt, alloc, &leaves(rt, alloc));
+    (sums(&low), sums(&high))
 }
 
 #[test]
@@ -310,19 +299,8 @@ fn one_child(rt: &impl Abort, alloc: Global, area: &Rect) -> IndexNode<usize>
     node_over(rt, alloc, copy(rt, area), references)
 }
 
-/// How many references it has.
-fn count_of_one(rt: &impl Abort, alloc: Global) -> usize {
-    let area = all(rt, alloc, 1, None);
-    one_child(rt, alloc, &area).references().len()
-}
-
-#[test]
-fn one_reference_tiles_its_rectangle(rt: HostRuntime) {
-    assert!(rt; count_of_one(&rt, rt.alloc()) == 1);
-}
-
-/// A node over one child, with two halves in its place.
-fn halves_over_one(rt: &impl Abort, alloc: Global) -> IndexNode<usize> {
+/// How many references it has, and the numbers below it with two halves in the place of its child.
+fn halves_over_one(rt: &impl Abort, alloc: Global) -> (usize, usize) {
     let area = all(rt, alloc, 1, None);
     let (before, after) = time_halves(rt, &area, 100);
     let first = Reference {
@@ -333,17 +311,17 @@ fn halves_over_one(rt: &impl Abort, alloc: Global) -> IndexNode<usize> {
         rect: after,
         child: 7,
     };
-    let node = one_child(rt, alloc, &area).with_references(&area, first, second);
-    node.expect(rt, "there is memory")
-}
-
-fn digits_over_one(rt: &impl Abort, alloc: Global) -> usize {
-    digits(&halves_over_one(rt, alloc))
+    let node = one_child(rt, alloc, &area);
+    let halves = node.with_references(&area, first, second);
+    (
+        node.references().len(),
+        digits(&halves.expect(rt, "there is memory")),
+    )
 }
 
 #[test]
 fn halves_take_the_place_of_their_whole_in_a_copy(rt: HostRuntime) {
-    assert!(rt; digits_over_one(&rt, rt.alloc()) == 67);
+    assert!(rt; halves_over_one(&rt, rt.alloc()) == (1, 67));
 }
 
 fn digits_of_copy(rt: &impl Abort, alloc: Global) -> usize {

@@ -184,17 +184,12 @@ const PAIRS: &str = "CREATE TABLE pairs (a VARCHAR(2), b BOOLEAN, \
     s TIMESTAMP GENERATED ALWAYS AS ROW START, e TIMESTAMP GENERATED ALWAYS AS ROW END, \
     PERIOD FOR SYSTEM_TIME (s, e), PRIMARY KEY (a, b)) WITH SYSTEM VERSIONING";
 
-/// Whether a key of the table is read from the bytes.
-fn is_read(rt: &impl Abort, alloc: Global, table: &Table, bytes: &[u8]) -> bool {
-    let read = read_key(alloc, table, &key(rt, alloc, bytes));
-    read.expect(rt, "there is memory").is_some()
-}
-
 /// Whether a key of a text and a truth is read from the bytes.
 fn is_pair_read(rt: &impl Abort, alloc: Global, bytes: &[u8]) -> bool {
     let pairs = schema(rt, alloc, PAIRS);
     let table = pairs.table_at(1).expect(rt, "it has a table");
-    is_read(rt, alloc, table, bytes)
+    let read = read_key(alloc, table, &key(rt, alloc, bytes));
+    read.expect(rt, "there is memory").is_some()
 }
 
 /// Bytes, and whether a key of a text and a truth is read from them.

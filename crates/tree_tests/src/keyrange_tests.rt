@@ -1,15 +1,11 @@
 //! Rectangles worked out by hand.
 
-use crate::sample::{all, time_halves};
+use crate::key_sample::key;
+use crate::sample::{all, copy, key_halves, time_halves};
 use keyrange::{KeyRange, Rect, TimeRange};
 use std::alloc::Global;
 use std::process::Abort;
 use values::{Instant, KeyBytes, MAX_INSTANT};
-
-fn key(rt: &impl Abort, alloc: Global, text: &[u8]) -> KeyBytes {
-    let bytes = text.to_vec(alloc).expect(rt, "there is memory");
-    KeyBytes::new(bytes).expect(rt, "the text is short")
-}
 
 /// The upper key of a range; no bytes are no end.
 fn end(rt: &impl Abort, alloc: Global, text: &[u8]) -> Option<KeyBytes> {
@@ -55,83 +51,57 @@ fn a_rectangle_has_a_key_and_an_instant(rt: HostRuntime) {
     }
 }
 
-/// The halves of all keys at instant 200.
-fn halves_at_200(rt: &impl Abort, alloc: Global) -> (Rect, Rect) {
-    time_halves(rt, &all(rt, alloc, 1, None), 200)
+/// The halves of all keys, at the key `m` or at instant 200.
+fn halves(rt: &impl Abort, alloc: Global, by_key: bool) -> (Rect, Rect) {
+    let area = all(rt, alloc, 1, None);
+    if by_key {
+        key_halves(rt, &area, &key(rt, alloc, b"m"))
+    } else {
+        time_halves(rt, &area, 200)
+    }
 }
 
-/// Whether each half has a point of a key.
+/// Whether each half has a point of a key, and whether they meet.
 fn in_halves(
     rt: &impl Abort,
     alloc: Global,
-    halves: &(Rect, Rect),
+    by_key: bool,
     text: &[u8],
     instant: Instant,
-) -> (bool, bool) {
+) -> (bool, bool, bool) {
+    let (first, second) = halves(rt, alloc, by_key);
     let key = key(rt, alloc, text);
     (
-        halves.0.contains(&key, instant),
-        halves.1.contains(&key, instant),
+        first.contains(&key, instant),
+        second.contains(&key, instant),
+        first.meets(&second),
     )
-}
-
-/// The same of the halves at instant 200 and the key `m`, and whether they meet.
-fn in_time_halves(rt: &impl Abort, alloc: Global, instant: Instant) -> ((bool, bool), bool) {
-    let halves = halves_at_200(rt, alloc);
-    let found = in_halves(rt, alloc, &halves, b"m", instant);
-    (found, halves.0.meets(&halves.1))
-}
-
-#[test]
-fn a_cut_by_time_parts_the_instants(rt: HostRuntime) {
-    assert!(rt; in_time_halves(&rt, rt.alloc(), 199) == ((true, false), false));
-    assert!(rt; in_time_halves(&rt, rt.alloc(), 200) == ((false, true), false));
-}
-
-fn halves_by_key(rt: &impl Abort, area: &Rect, key: &KeyBytes) -> (Rect, Rect) {
-    let halves = area.cut_key(key).expect(rt, "there is memory");
-    halves.expect(rt, "the key is inside")
-}
-
-/// The halves of all keys at the key `m`.
-fn halves_at_m(rt: &impl Abort, alloc: Global) -> (Rect, Rect) {
-    halves_by_key(rt, &all(rt, alloc, 1, None), &key(rt, alloc, b"m"))
-}
-
-/// Whether each of those halves has a point of a key, and whether they meet.
-fn in_key_halves(rt: &impl Abort, alloc: Global, text: &[u8]) -> ((bool, bool), bool) {
-    let halves = halves_at_m(rt, alloc);
-    let found = in_halves(rt, alloc, &halves, text, 7);
-    (found, halves.0.meets(&halves.1))
 }
 
 #[test]
 fn a_cut_by_key_parts_the_keys(rt: HostRuntime) {
-    assert!(rt; in_key_halves(&rt, rt.alloc(), b"l") == ((true, false), false));
-    assert!(rt; in_key_halves(&rt, rt.alloc(), b"m") == ((false, true), false));
+    let cases: [(bool, &[u8], Instant, bool); 4] = [
+        (true, b"l", 7, true),
+        (true, b"m", 7, false),
+        (false, b"m", 199, true),
+        (false, b"m", 200, false),
+    ];
+    for (by_key, text, instant, is_first) in cases {
+        let found = in_halves(&rt, rt.alloc(), by_key, text, instant);
+        assert!(rt; found == (is_first, !is_first, false), "at {instant}");
+    }
 }
 
-/// A copy of all keys.
-fn copy(rt: &impl Abort, alloc: Global) -> Rect {
-    let copy = all(rt, alloc, 1, None).copy();
-    copy.expect(rt, "there is memory")
-}
-
-/// Whether a rectangle has halves at its least key.
-fn is_cut_at_least_key(rt: &impl Abort, alloc: Global, area: &Rect) -> bool {
-    let halves = area.cut_key(&KeyBytes::least(alloc));
-    halves.expect(rt, "there is memory").is_some()
-}
-
-/// Whether a rectangle has halves at an instant.
-fn is_cut_at(rt: &impl Abort, area: &Rect, instant: Instant) -> bool {
-    let halves = area.cut_time(instant);
-    halves.expect(rt, "there is memory").is_some()
+/// Whether all keys have halves at the least key, and at their first instant.
+fn is_cut_at_the_start(rt: &impl Abort, alloc: Global) -> (bool, bool) {
+    let area = copy(rt, &all(rt, alloc, 1, None));
+    let by_key = area.cut_key(&KeyBytes::least(alloc));
+    let by_key = by_key.expect(rt, "there is memory").is_some();
+    let by_time = area.cut_time(1);
+    (by_key, by_time.expect(rt, "there is memory").is_some())
 }
 
 #[test]
 fn a_cut_at_the_start_gives_none(rt: HostRuntime) {
-    let area = copy(&rt, rt.alloc());
-    assert!(rt; !is_cut_at_least_key(&rt, rt.alloc(), &area));
-    assert!(rt; !is_cut_at(&rt, &area, 1));
+    assert!(rt; is_cut_at_the_start(&rt, rt.alloc()) == (false, false));
 }

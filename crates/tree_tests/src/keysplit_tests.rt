@@ -14,15 +14,6 @@ fn put_all(rt: &impl Abort, alloc: Global, node: &mut DataNode, number: u8, coun
     }
 }
 
-/// A node of all keys, with events of each key at the instants from 1 to its count.
-fn node(rt: &impl Abort, alloc: Global, counts: &[(u8, Instant)]) -> DataNode {
-    let mut node = empty_node(rt, alloc);
-    for (number, count) in counts {
-        put_all(rt, alloc, &mut node, *number, *count);
-    }
-    node
-}
-
 fn first_byte(key: &KeyBytes) -> u8 {
     key.bytes().first().copied().unwrap_or(0)
 }
@@ -48,26 +39,26 @@ fn split_of(
     alloc: Global,
     counts: &[(u8, Instant)],
 ) -> Option<(u8, usize, usize)> {
-    split(rt, &node(rt, alloc, counts))
+    let mut node = empty_node(rt, alloc);
+    for (number, count) in counts {
+        put_all(rt, alloc, &mut node, *number, *count);
+    }
+    split(rt, &node)
 }
 
 #[test]
 fn a_middle_key_is_that_of_place_32_or_the_next(rt: HostRuntime) {
-    let cases: [(&[(u8, Instant)], (u8, usize, usize)); 4] = [
+    let cases: [(&[(u8, Instant)], (u8, usize, usize)); 5] = [
         (&[(1, 40), (2, 25)], (2, 40, 25)),
         (&[(1, 65)], (0, 0, 0)),
         (&[(1, 32), (2, 20), (3, 13)], (2, 32, 33)),
         (&[(1, 10), (2, 10), (3, 45)], (3, 20, 45)),
+        // a key at the cut goes to the right
+        (&[(1, 32), (2, 1)], (2, 32, 1)),
     ];
     for (counts, halves) in cases {
         assert!(rt; split_of(&rt, rt.alloc(), counts) == Some(halves));
     }
-}
-
-#[test]
-fn a_key_at_the_cut_goes_to_the_right(rt: HostRuntime) {
-    let halves = split_of(&rt, rt.alloc(), &[(1, 32), (2, 1)]);
-    assert!(rt; halves == Some((2, 32, 1)));
 }
 
 /// The same of a node with one event for each of 65 keys.

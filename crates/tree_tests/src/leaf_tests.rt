@@ -2,7 +2,8 @@
 ghost use Rattle.std.specs.Prelude.{◌≡◌, ◌≤◌, IfSome};
 ghost use Rattle.treenodes.specs.Sound.{IsSound};
 
-use crate::growth::{key, two_parents, two_rows};
+use crate::growth::{two_parents, two_rows};
+use crate::sample::row_key;
 use std::alloc::Global;
 use std::marker::Model;
 use std::process::Abort;
@@ -57,13 +58,13 @@ impl Grown {
 
     /// Splits the current data node of a key at 200.
     fn split_at_200(&mut self, rt: &impl Abort, alloc: Global, number: u8) -> bool {
-        let nodes = time_split(alloc, &self.nodes, 200, &key(rt, alloc, number), 200);
+        let nodes = time_split(alloc, &self.nodes, 200, &row_key(rt, alloc, number), 200);
         self.put(nodes.expect(rt, "there is memory"))
     }
 
     /// Splits the current data node of a key there.
     fn split_before(&mut self, rt: &impl Abort, alloc: Global, number: u8) -> bool {
-        let nodes = key_split(alloc, &self.nodes, 200, &key(rt, alloc, number));
+        let nodes = key_split(alloc, &self.nodes, 200, &row_key(rt, alloc, number));
         self.put(nodes.expect(rt, "there is memory"))
     }
 
@@ -132,48 +133,41 @@ fn count_of(child: &Child) -> Option<usize> {
     }
 }
 
-/// The number of the node that references lead to from the root.
-fn place(rt: &impl Abort, alloc: Global, grown: Grown, number: u8, at: Instant) -> usize {
-    descend(&grown, &key(rt, alloc, number), at)
-}
-
 /// The start of the data node that a view lends at a point, where references lead to it.
 fn start_of_leaf(
     rt: &impl Abort,
     alloc: Global,
-    grown: Grown,
-    tree: Tree,
+    grown: &Grown,
+    tree: &Tree,
     number: u8,
     at: Instant,
 ) -> Option<Instant>
     requires { 1 ≤ at }
 {
-    let key = key(rt, alloc, number);
+    let key = row_key(rt, alloc, number);
     let leaf = tree.current().leaf(&key, at);
-    if is_leaf(&grown, descend(&grown, &key, at), leaf) {
-        return Some(leaf.rect().time().from);
-    }
-    None
-}
-
-#[test]
-fn references_lead_to_the_leaf_of_a_point(rt: HostRuntime) {
-    for (number, at, from) in [(10, 150, 1), (10, 200, 200), (40, 150, 1), (40, 200, 200)] {
-        let grown = nodes_of_two_parents(&rt, rt.alloc());
-        let tree = two_parents(&rt, rt.alloc());
-        let found = start_of_leaf(&rt, rt.alloc(), grown, tree, number, at);
-        assert!(rt; found == Some(from), "key {number} at {at}");
+    if is_leaf(grown, descend(grown, &key, at), leaf) {
+        Some(leaf.rect().time().from)
+    } else {
+        None
     }
 }
 
 /// Whether references lead to one data node for both keys.
-fn is_one_place(rt: &impl Abort, alloc: Global, at: Instant) -> bool {
-    let low = place(rt, alloc, nodes_of_two_parents(rt, alloc), 10, at);
-    low == place(rt, alloc, nodes_of_two_parents(rt, alloc), 40, at)
+fn is_one_place(rt: &impl Abort, alloc: Global, grown: &Grown, at: Instant) -> bool {
+    let low = descend(grown, &row_key(rt, alloc, 10), at);
+    low == descend(grown, &row_key(rt, alloc, 40), at)
 }
 
 #[test]
-fn the_leaf_of_two_keys_is_one_before_the_split(rt: HostRuntime) {
-    assert!(rt; is_one_place(&rt, rt.alloc(), 150));
-    assert!(rt; !is_one_place(&rt, rt.alloc(), 200));
+fn references_lead_to_the_leaf_of_a_point(rt: HostRuntime) {
+    let alloc = rt.alloc();
+    let grown = nodes_of_two_parents(&rt, alloc);
+    let tree = two_parents(&rt, alloc);
+    for (number, at, from) in [(10, 150, 1), (10, 200, 200), (40, 150, 1), (40, 200, 200)] {
+        let found = start_of_leaf(&rt, alloc, &grown, &tree, number, at);
+        assert!(rt; found == Some(from), "key {number} at {at}");
+    }
+    assert!(rt; is_one_place(&rt, alloc, &grown, 150), "before the split");
+    assert!(rt; !is_one_place(&rt, alloc, &grown, 200), "after the split");
 }

@@ -43,8 +43,6 @@ mod packing_tests;
 #[cfg(test)]
 mod range_change_tests;
 #[cfg(test)]
-mod read_tests;
-#[cfg(test)]
 mod row_tests;
 #[cfg(test)]
 mod sample;

@@ -1,25 +1,16 @@
-//! Packed nodes, made of a node and of bytes, answer as the node does.
+//! Packed nodes, made of a node and of bytes, answer as the node does, and so do their bytes in place.
 
-use crate::block_sample::{blocks, carrying_block, first_block, first_node, key, old_first_block};
-use blocks::{Block, has_block};
-use bytes::Bytes;
+use crate::block_sample::{
+    block_of, blocks, carrying_block, first_block, first_node, found_block, old_first_block,
+};
+use crate::sample::row_key;
+use blocks::{Block, at, changed_since, has_block};
 use datanode::DataNode;
 use eventlist::event_since;
 use keyrange::KeyRange;
 use std::alloc::Global;
 use std::process::Abort;
-use values::{Instant, KeyBytes, Row, SharedEvent};
-
-fn found_block(rt: &impl Abort, alloc: Global, bytes: &[u8]) -> Option<Block> {
-    let bytes = Vec::from_slice(alloc, bytes).expect(rt, "there is memory");
-    let bytes = Bytes::from_vec(bytes).expect(rt, "there is memory");
-    Block::from_bytes(alloc, bytes).expect(rt, "there is memory")
-}
-
-/// The block that bytes are.
-fn block_of(rt: &impl Abort, alloc: Global, bytes: &[u8]) -> Block {
-    found_block(rt, alloc, bytes).expect(rt, "the bytes are a block")
-}
+use values::{Instant, KeyBytes, Row, SharedEvent, row_bytes};
 
 /// The block of a node that has one.
 fn pack_of(rt: &impl Abort, alloc: Global, node: &DataNode) -> Block {
@@ -29,14 +20,9 @@ fn pack_of(rt: &impl Abort, alloc: Global, node: &DataNode) -> Block {
     Block::pack(alloc, node).expect(rt, "there is memory")
 }
 
-/// The block of the node whose block was worked out by hand.
-fn packed_first(rt: &impl Abort, alloc: Global) -> Block {
-    let node = first_node(rt, alloc);
-    pack_of(rt, alloc, &node)
-}
-
-/// Whether a block is the same as that of the bytes given, has these bytes, and ends at 200.
-fn is_first(rt: &impl Abort, alloc: Global, block: &Block) -> bool {
+/// Whether the node whose block was worked out by hand is packed to that block, which ends at 200.
+fn is_first(rt: &impl Abort, alloc: Global) -> bool {
+    let block = pack_of(rt, alloc, &first_node(rt, alloc));
     block.bytes().as_slice() == first_block()
         && block.rect().time().to == Some(200)
         && block.is_same(&block_of(rt, alloc, first_block()))
@@ -44,7 +30,7 @@ fn is_first(rt: &impl Abort, alloc: Global, block: &Block) -> bool {
 
 #[test]
 fn a_node_is_packed_to_the_block_that_its_bytes_make(rt: HostRuntime) {
-    assert!(rt; is_first(&rt, rt.alloc(), &packed_first(&rt, rt.alloc())));
+    assert!(rt; is_first(&rt, rt.alloc()));
 }
 
 /// Whether the first block and that of form 1 are the same, and whether they unpack to nodes of as
@@ -111,8 +97,19 @@ fn width(row: Option<&Row>) -> usize {
     }
 }
 
-/// Whether a block and its node have a row of one width of a key at an instant, and one last and
-/// one next change after it.
+fn bytes_of(rt: &impl Abort, alloc: Global, row: Option<&Row>) -> Vec<u8> {
+    match row {
+        None => Vec::new(alloc),
+        Some(row) => row_bytes(alloc, row).expect(rt, "there is memory"),
+    }
+}
+
+fn is_row(rt: &impl Abort, alloc: Global, row: Option<&Row>, of_node: Option<&Row>) -> bool {
+    bytes_of(rt, alloc, row) == bytes_of(rt, alloc, of_node)
+}
+
+/// Whether a block, its bytes in place and its node have one row of a key at an instant, and one
+/// last and one next change after it.
 fn agree(
     rt: &impl Abort,
     alloc: Global,
@@ -121,9 +118,14 @@ fn agree(
     key: &KeyBytes,
     instant: Instant,
 ) -> bool {
-    let row = block.at(alloc, key, instant).expect(rt, "there is memory");
-    width(row.as_ref()) == width(node.at(key, instant))
-        && block.changed_since(key, instant) == event_since(node.events(), key, instant)
+    let bytes = block.bytes().as_slice();
+    let packed = block.at(alloc, key, instant).expect(rt, "there is memory");
+    let in_place = at(alloc, bytes, key, instant).expect(rt, "there is memory");
+    let change = event_since(node.events(), key, instant);
+    is_row(rt, alloc, packed.as_ref(), node.at(key, instant))
+        && is_row(rt, alloc, in_place.as_ref(), node.at(key, instant))
+        && changed_since(bytes, key, instant) == change
+        && block.changed_since(key, instant) == change
         && block.next_change(key, instant) == first_above(node, key, instant)
 }
 
@@ -135,7 +137,7 @@ fn count_of_key(
     node: &DataNode,
     number: u8,
 ) -> usize {
-    let key = key(rt, alloc, number);
+    let key = row_key(rt, alloc, number);
     let mut count = 0usize;
     for instant in 0..400 {
         if agree(rt, alloc, block, node, &key, instant) {
@@ -155,16 +157,11 @@ fn count_both(rt: &impl Abort, alloc: Global, block: &Block, node: &DataNode) ->
     count
 }
 
-/// The node that a copy of a block unpacks to.
-fn node_of_copy(rt: &impl Abort, alloc: Global, block: &Block) -> DataNode {
-    let copy = block.copy().expect(rt, "there is memory");
-    copy.unpack(alloc).expect(rt, "there is memory")
-}
-
 /// For how many keys and instants a block and the node that its copy unpacks to agree.
 fn count_agreed(rt: &impl Abort, alloc: Global, bytes: &[u8]) -> usize {
     let block = block_of(rt, alloc, bytes);
-    let node = node_of_copy(rt, alloc, &block);
+    let copy = block.copy().expect(rt, "there is memory");
+    let node = copy.unpack(alloc).expect(rt, "there is memory");
     count_both(rt, alloc, &block, &node)
 }
 
@@ -175,41 +172,76 @@ fn a_packed_node_answers_as_the_node_that_it_unpacks_to(rt: HostRuntime) {
     }
 }
 
-/// A key's next change after an instant in the block with a carried event.
-fn next(rt: &impl Abort, alloc: Global, key: &KeyBytes, after: Instant) -> Option<Instant> {
-    let block = block_of(rt, alloc, carrying_block());
-    block.next_change(key, after)
+/// How many values a key's row has at an instant in the block with a carried event, 0 where there is
+/// none, and the key's last and next change after it.
+type Found = (usize, Option<Instant>, Option<Instant>);
+
+fn found_in_place(rt: &impl Abort, alloc: Global, number: u8, instant: Instant) -> Found {
+    let bytes = carrying_block();
+    let key = row_key(rt, alloc, number);
+    let row = at(alloc, bytes, &key, instant).expect(rt, "there is memory");
+    let next = block_of(rt, alloc, bytes).next_change(&key, instant);
+    (
+        width(row.as_ref()),
+        changed_since(bytes, &key, instant),
+        next,
+    )
 }
 
 #[test]
 fn the_next_change_is_found_in_place(rt: HostRuntime) {
     let cases = [
-        (1, 0, None),
-        (2, 0, Some(100)),
-        (2, 100, None),
-        (3, 0, Some(200)),
-        (3, 199, Some(200)),
-        (3, 200, Some(250)),
-        (3, 250, None),
-        (4, 298, Some(299)),
-        (4, u64::MAX, None),
-        (5, 0, None),
+        (1, 0, (0, None, None)),
+        (1, 299, (0, None, None)),
+        (2, 0, (0, Some(100), Some(100))),
+        (2, 99, (0, Some(100), Some(100))),
+        (2, 100, (2, None, None)),
+        (2, 299, (2, None, None)),
+        (3, 0, (0, Some(250), Some(200))),
+        (3, 199, (0, Some(250), Some(200))),
+        (3, 200, (6, Some(250), Some(250))),
+        (3, 249, (6, Some(250), Some(250))),
+        (3, 250, (0, None, None)),
+        (4, 298, (0, Some(299), Some(299))),
+        (4, 299, (1, None, None)),
+        (4, u64::MAX, (1, None, None)),
+        (5, 0, (0, None, None)),
+        (5, 299, (0, None, None)),
     ];
-    for (number, after, change) in cases {
-        let found = next(&rt, rt.alloc(), &key(&rt, rt.alloc(), number), after);
-        assert!(rt; found == change, "key {number} after {after}");
+    for (number, instant, found) in cases {
+        assert!(rt;
+            found_in_place(&rt, rt.alloc(), number, instant) == found,
+            "key {number} at {instant}"
+        );
+    }
+}
+
+/// Whether nothing is found of a key in bytes.
+fn is_nothing_found(rt: &impl Abort, alloc: Global, bytes: &[u8]) -> bool {
+    let key = row_key(rt, alloc, 1);
+    let row = at(alloc, bytes, &key, 150).expect(rt, "there is memory");
+    row.is_none() && changed_since(bytes, &key, 1).is_none()
+}
+
+#[test]
+fn nothing_is_found_where_there_is_no_block(rt: HostRuntime) {
+    for (block, longest) in [(first_block(), 44), (old_first_block(), 43)] {
+        for length in 0..longest {
+            let bytes = block.split_at(length).0;
+            assert!(rt; is_nothing_found(&rt, rt.alloc(), bytes), "at {length}");
+        }
     }
 }
 
 /// The keys from a number on, and below another where it is at most 8.
 fn keys_between(rt: &impl Abort, alloc: Global, from: u8, to: u8) -> KeyRange {
     let hi = if to <= 8 {
-        Some(key(rt, alloc, to))
+        Some(row_key(rt, alloc, to))
     } else {
         None
     };
     KeyRange {
-        lo: key(rt, alloc, from),
+        lo: row_key(rt, alloc, from),
         hi,
     }
 }

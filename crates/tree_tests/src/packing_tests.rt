@@ -1,11 +1,10 @@
 //! Blocks take the places of nodes of history.
-ghost use Rattle.std.specs.Prelude.{◌≤◌};
-
 use crate::answer::{answers, answers_of};
-use crate::growth::{few_changes_split, key, one_key_split, two_parents, two_versions};
+use crate::block_sample::old_block_of;
+use crate::growth::{few_changes_split, one_key_split, two_parents, two_versions};
 use crate::line::{begins_with, count_packed, is_packed_line, shape_of};
+use crate::sample::row_key;
 use blocks::Block;
-use bytes::Bytes;
 use datanode::DataNode;
 use keyrange::Rect;
 use std::alloc::Global;
@@ -46,11 +45,6 @@ pub(crate) fn pack_firsts(rt: &impl Abort, alloc: Global, tree: Tree, count: usi
     tree
 }
 
-/// The tree whose historical node has two parents, with that node packed.
-fn two_parents_packed(rt: &impl Abort, alloc: Global) -> Tree {
-    pack_firsts(rt, alloc, two_parents(rt, alloc), 1)
-}
-
 /// Whether a shape shows one packed node, in the place of the historical one.
 fn is_shown_once(shape: &Shape) -> bool {
     let lines = [
@@ -74,10 +68,9 @@ fn start(node: Option<&DataNode>) -> Instant {
 
 /// Whether a tree's data node at a point is packed, and when its unpacked node of history of that
 /// node's rectangle starts; 0 where there is none.
-fn leaf_at(rt: &impl Abort, alloc: Global, tree: Tree, number: u8, at: Instant) -> (bool, Instant)
-    requires { 1 ≤ at }
-{
-    let key = key(rt, alloc, number);
+fn leaf_at(rt: &impl Abort, alloc: Global, tree: Tree, number: u8, at: Instant) -> (bool, Instant) {
+    assert!(rt; 1 <= at);
+    let key = row_key(rt, alloc, number);
     let view = tree.current();
     let leaf = view.leaf(&key, at);
     let from = start(view.historical(leaf.rect()));
@@ -86,33 +79,32 @@ fn leaf_at(rt: &impl Abort, alloc: Global, tree: Tree, number: u8, at: Instant) 
 
 #[test]
 fn a_node_of_two_parents_is_packed_once(rt: HostRuntime) {
-    let shape = shape_of(&rt, rt.alloc(), two_parents_packed(&rt, rt.alloc()));
-    assert!(rt; is_shown_once(&shape));
-    for (number, at, packed) in [
-        (10, 1, true),
-        (10, 199, true),
-        (10, 200, false),
-        (40, 1, true),
-        (40, 199, true),
-        (40, 200, false),
+    let alloc = rt.alloc();
+    let tree = pack_firsts(&rt, alloc, two_parents(&rt, alloc), 1);
+    assert!(rt; is_shown_once(&shape_of(&rt, alloc, tree)));
+    for (count, number, at, found) in [
+        (1, 10, 1, (true, 0)),
+        (1, 10, 199, (true, 0)),
+        (1, 10, 200, (false, 0)),
+        (1, 40, 1, (true, 0)),
+        (1, 40, 199, (true, 0)),
+        (1, 40, 200, (false, 0)),
+        (0, 10, 1, (false, 1)),
+        (0, 40, 199, (false, 1)),
+        (0, 10, 200, (false, 0)),
+        (0, 40, 200, (false, 0)),
     ] {
-        let tree = two_parents_packed(&rt, rt.alloc());
-        let found = leaf_at(&rt, rt.alloc(), tree, number, at).0;
-        assert!(rt; found == packed, "key {number} at {at}");
+        let tree = pack_firsts(&rt, alloc, two_parents(&rt, alloc), count);
+        assert!(rt;
+            leaf_at(&rt, alloc, tree, number, at) == found,
+            "key {number} at {at}"
+        );
     }
 }
 
-/// When a view's first unpacked node starts, and when its unpacked node of a rectangle does; 0
-/// where there is none.
-fn starts(view: &View, rect: &Rect) -> (Instant, Instant) {
-    (
-        start(view.first_unpacked(None)),
-        start(view.historical(rect)),
-    )
-}
-
-/// The same of the tree whose historical node has two parents, for that node's rectangle: before it
-/// is packed, and thereafter. And whether both views are the same.
+/// When the first unpacked node starts of the tree whose historical node has two parents, and its
+/// unpacked node of that node's rectangle, 0 where there is none: before it is packed, and
+/// thereafter. And whether both views are the same.
 type Starts = ((Instant, Instant), (Instant, Instant), bool);
 
 fn starts_of_both(rt: &impl Abort, alloc: Global) -> Starts {
@@ -121,34 +113,27 @@ fn starts_of_both(rt: &impl Abort, alloc: Global) -> Starts {
     assert!(rt; install_first(rt, alloc, &mut tree, &before));
     let after = tree.current();
     let first = before.first_unpacked(None).expect(rt, "a node of history");
+    let rect = first.rect();
     (
-        starts(&before, first.rect()),
-        starts(after, first.rect()),
+        (start(Some(first)), start(before.historical(rect))),
+        (
+            start(after.first_unpacked(None)),
+            start(after.historical(rect)),
+        ),
         before.same(after),
     )
 }
 
 #[test]
 fn an_earlier_view_shows_its_node_unpacked(rt: HostRuntime) {
-    let found = starts_of_both(&rt, rt.alloc());
-    assert!(rt; found == ((1, 1), (0, 0), false));
-}
-
-#[test]
-fn a_node_of_history_is_found_by_its_rectangle(rt: HostRuntime) {
-    for (number, at, from) in [(10, 1, 1), (40, 199, 1), (10, 200, 0), (40, 200, 0)] {
-        let tree = two_parents(&rt, rt.alloc());
-        let found = leaf_at(&rt, rt.alloc(), tree, number, at).1;
-        assert!(rt; found == from, "key {number} at {at}");
-    }
+    assert!(rt; starts_of_both(&rt, rt.alloc()) == ((1, 1), (0, 0), false));
 }
 
 /// Whether a tree takes the block of a view's first unpacked node. It is then as it was just where
 /// it does not.
-fn takes_first(rt: &impl Abort, alloc: Global, tree: Tree, view: View) -> bool {
-    let mut tree = tree;
-    let before = view_of(rt, &tree);
-    let taken = install_first(rt, alloc, &mut tree, &view);
+fn takes_first(rt: &impl Abort, alloc: Global, tree: &mut Tree, view: &View) -> bool {
+    let before = view_of(rt, tree);
+    let taken = install_first(rt, alloc, tree, view);
     assert!(rt; before.same(tree.current()) != taken);
     taken
 }
@@ -158,12 +143,12 @@ fn takes_again(rt: &impl Abort, alloc: Global) -> bool {
     let mut tree = two_parents(rt, alloc);
     let before = view_of(rt, &tree);
     assert!(rt; install_first(rt, alloc, &mut tree, &before));
-    takes_first(rt, alloc, tree, before)
+    takes_first(rt, alloc, &mut tree, &before)
 }
 
 /// The same where another tree has the node.
-fn takes_from(rt: &impl Abort, alloc: Global, tree: Tree, other: Tree) -> bool {
-    takes_first(rt, alloc, tree, view_of(rt, &other))
+fn takes_from(rt: &impl Abort, alloc: Global, mut tree: Tree, other: Tree) -> bool {
+    takes_first(rt, alloc, &mut tree, other.current())
 }
 
 /// The same where the node is of one rectangle with the tree's own; with one row or another.
@@ -172,31 +157,14 @@ fn takes_version(rt: &impl Abort, alloc: Global, value: i64) -> bool {
     takes_from(rt, alloc, tree, two_versions(rt, alloc, value))
 }
 
-/// The same where the node is of another rectangle.
-fn takes_other(rt: &impl Abort, alloc: Global) -> bool {
-    let tree = two_parents(rt, alloc);
-    takes_from(rt, alloc, tree, one_key_split(rt, alloc))
-}
-
 #[test]
 fn a_block_is_taken_where_its_node_stands_unpacked(rt: HostRuntime) {
-    assert!(rt; !takes_again(&rt, rt.alloc()));
-    assert!(rt; !takes_other(&rt, rt.alloc()));
-    for (value, taken) in [(1, true), (2, false)] {
-        let found = takes_version(&rt, rt.alloc(), value);
-        assert!(rt; found == taken, "value {value}");
-    }
-}
-
-/// The block of form 1 of a node, made of that of form 2: another mark, and no width behind it.
-fn old_block_of(rt: &impl Abort, alloc: Global, block: &Block) -> Block {
-    let mut bytes = Vec::from_slice(alloc, b"TSB1").expect(rt, "there is memory");
-    for byte in block.bytes().as_slice().iter().skip(5) {
-        bytes.push(*byte).expect(rt, "there is memory");
-    }
-    let bytes = Bytes::from_vec(bytes).expect(rt, "there is memory");
-    let found = Block::from_bytes(alloc, bytes).expect(rt, "there is memory");
-    found.expect(rt, "the bytes are a block")
+    let alloc = rt.alloc();
+    assert!(rt; !takes_again(&rt, alloc), "packed before");
+    let tree = two_parents(&rt, alloc);
+    let is_other_taken = takes_from(&rt, alloc, tree, one_key_split(&rt, alloc));
+    assert!(rt; !is_other_taken, "of another rectangle");
+    assert!(rt; takes_version(&rt, alloc, 1) && !takes_version(&rt, alloc, 2));
 }
 
 /// Puts a block of form 1 into a tree, in the place of the node that it unpacks to.
@@ -238,7 +206,7 @@ fn packed_nodes_answer_as_before(rt: HostRuntime) {
             for at in [0, 99, 100, 119, 120, 150, 199, 200, MAX_INSTANT] {
                 assert!(rt;
                     is_alike(&rt, rt.alloc(), count, number, at),
-                    "key {number} at {at}, {count} packed"
+                    "key {number} at {at}"
                 );
             }
         }

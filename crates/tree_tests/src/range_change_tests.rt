@@ -1,6 +1,7 @@
 //! When a key of a range was last changed. A test keeps no tree: each helper makes its own.
-use crate::growth::{changed_key, few_changes_split, key, last_row, many_keys_deleted};
+use crate::growth::{changed_key, few_changes_split, last_row, many_keys_deleted};
 use crate::packing_tests::pack_firsts;
+use crate::sample::row_key;
 use keyrange::KeyRange;
 use std::alloc::Global;
 use std::process::Abort;
@@ -12,10 +13,10 @@ fn range(rt: &impl Abort, alloc: Global, lo: u8, hi: u8) -> KeyRange {
     let end = if hi == 0 {
         None
     } else {
-        Some(key(rt, alloc, hi))
+        Some(row_key(rt, alloc, hi))
     };
     KeyRange {
-        lo: key(rt, alloc, lo),
+        lo: row_key(rt, alloc, lo),
         hi: end,
     }
 }
@@ -32,50 +33,43 @@ fn last_change(
     found.expect(rt, "there is memory")
 }
 
-/// The same where keys 1 and 2 are changed at 100, and key 1 is deleted at 200.
-fn of_few(rt: &impl Abort, alloc: Global, keys: (u8, u8), start: Instant) -> Option<Instant> {
-    let tree = few_changes_split(rt, alloc, &[150]);
+/// The same where keys 1 and 2 are changed at 100, and key 1 is deleted at 200; or where key 1 is
+/// changed at the greatest instant.
+fn of_few(
+    rt: &impl Abort,
+    alloc: Global,
+    is_last_row: bool,
+    keys: (u8, u8),
+    start: Instant,
+) -> Option<Instant> {
+    let tree = if is_last_row {
+        last_row(rt, alloc)
+    } else {
+        few_changes_split(rt, alloc, &[150])
+    };
     last_change(rt, alloc, &tree, keys, start)
 }
 
 #[test]
 fn the_latest_of_all_keys_is_found(rt: HostRuntime) {
-    for (lo, hi, start, at) in [
-        (1, 0, 99, Some(200)),
-        (1, 3, 199, Some(200)),
-        (1, 3, 200, None),
-        (2, 3, 99, Some(100)),
-        (2, 0, 100, None),
-        (3, 0, 0, None),
+    for (is_last_row, keys, start, at) in [
+        (false, (1, 0), 99, Some(200)),
+        (false, (1, 3), 199, Some(200)),
+        (false, (1, 3), 200, None),
+        (false, (2, 3), 99, Some(100)),
+        (false, (2, 0), 100, None),
+        (false, (3, 0), 0, None),
+        // an empty range
+        (false, (1, 1), 0, None),
+        (false, (2, 1), 0, None),
+        // no change is above the greatest instant
+        (true, (1, 0), 0, Some(MAX_INSTANT)),
+        (true, (1, 0), MAX_INSTANT - 1, Some(MAX_INSTANT)),
+        (true, (1, 0), MAX_INSTANT, None),
+        (true, (1, 0), u64::MAX, None),
     ] {
-        let found = of_few(&rt, rt.alloc(), (lo, hi), start);
-        assert!(rt; found == at, "keys {lo} to {hi} since {start}");
-    }
-}
-
-#[test]
-fn an_empty_range_has_no_change(rt: HostRuntime) {
-    for (lo, hi) in [(1, 1), (2, 1)] {
-        let found = of_few(&rt, rt.alloc(), (lo, hi), 0);
-        assert!(rt; found.is_none(), "keys {lo} to {hi}");
-    }
-}
-
-/// The same where key 1 is changed at the greatest instant.
-fn of_last_row(rt: &impl Abort, alloc: Global, start: Instant) -> Option<Instant> {
-    last_change(rt, alloc, &last_row(rt, alloc), (1, 0), start)
-}
-
-#[test]
-fn no_change_is_above_the_greatest_instant(rt: HostRuntime) {
-    for (start, at) in [
-        (0, Some(MAX_INSTANT)),
-        (MAX_INSTANT - 1, Some(MAX_INSTANT)),
-        (MAX_INSTANT, None),
-        (u64::MAX, None),
-    ] {
-        let found = of_last_row(&rt, rt.alloc(), start);
-        assert!(rt; found == at, "since {start}");
+        let found = of_few(&rt, rt.alloc(), is_last_row, keys, start);
+        assert!(rt; found == at, "keys from {} since {start}", keys.0);
     }
 }
 
@@ -137,7 +131,7 @@ fn count_keys(rt: &impl Abort, alloc: Global, packed: usize, start: Instant) -> 
     for number in 1..47u8 {
         let alone = view.changed_in(&range(rt, alloc, number, number + 1), start);
         let alone = alone.expect(rt, "there is memory");
-        if alone != view.changed_since(&key(rt, alloc, number), start) {
+        if alone != view.changed_since(&row_key(rt, alloc, number), start) {
             count = count.saturating_add(1);
         }
     }

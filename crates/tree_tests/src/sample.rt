@@ -14,6 +14,12 @@ pub(crate) fn key(rt: &impl Abort, alloc: Global, number: u8) -> KeyBytes {
     KeyBytes::new(bytes).expect(rt, "one byte is short")
 }
 
+/// The key of the row of table 1 whose key is this number.
+pub(crate) fn row_key(rt: &impl Abort, alloc: Global, number: u8) -> KeyBytes {
+    let bytes = vec![in alloc; 1, 128, 0, 0, 0, 0, 0, 0, number];
+    KeyBytes::new(bytes.expect(rt, "there is memory")).expect(rt, "nine bytes are few")
+}
+
 pub(crate) fn all_keys(alloc: Global) -> KeyRange {
     KeyRange {
         lo: KeyBytes::least(alloc),
@@ -105,12 +111,28 @@ pub(crate) fn put(
     true
 }
 
-/// A node in which key 1 has a row at 100, and its deletion at 200.
-pub(crate) fn sample_node(rt: &impl Abort, alloc: Global) -> DataNode {
+/// Key 1 has a row at 100, and its deletion at 200.
+pub(crate) const ONE_KEY: &[(u8, Instant, bool)] = &[(1, 100, true), (1, 200, false)];
+
+/// A node of all keys with these changes: the key, the instant, and whether there is a row then.
+pub(crate) fn node_of(rt: &impl Abort, alloc: Global, changes: &[(u8, Instant, bool)]) -> DataNode {
     let mut node = empty_node(rt, alloc);
-    assert!(rt; put(rt, alloc, &mut node, 1, 100, true));
-    assert!(rt; put(rt, alloc, &mut node, 1, 200, false));
+    for (number, at, there) in changes {
+        assert!(rt; put(rt, alloc, &mut node, *number, *at, *there));
+    }
     node
+}
+
+/// The part of a node before an instant.
+pub(crate) fn part_before(rt: &impl Abort, node: &DataNode, instant: Instant) -> DataNode {
+    let (past, _now) = time_halves(rt, node.rect(), instant);
+    node.part(past).expect(rt, "there is memory")
+}
+
+/// The part of a node from an instant on.
+pub(crate) fn since(rt: &impl Abort, node: &DataNode, instant: Instant) -> DataNode {
+    let (_past, now) = time_halves(rt, node.rect(), instant);
+    node.part(now).expect(rt, "there is memory")
 }
 
 /// How many items a list has.

@@ -1,13 +1,13 @@
 //! Ranges worked out by hand.
 
+use crate::key_sample::{schema, text};
 use keyrange::KeyRange;
-use rows::ReadSchema;
 use searchrange::{Search, range_of_table};
 use std::alloc::Global;
 use std::process::Abort;
 use steps::fit_keys;
 use values::{
-    Chars, Comparison, Key, KeyBytes, Keys, Operator, Schema, Sequence, Value, Values, key_bytes,
+    Comparison, Key, KeyBytes, Keys, Operator, Schema, Sequence, Value, Values, key_bytes,
 };
 
 fn is_end(end: &Option<KeyBytes>, bytes: &[u8]) -> bool {
@@ -22,184 +22,122 @@ fn is_range(range: &KeyRange, lo: &[u8], hi: &[u8]) -> bool {
     range.lo.bytes() == lo && is_end(&range.hi, hi)
 }
 
-fn number(operator: Operator, number: i64) -> Comparison {
-    Comparison {
-        column: 1,
-        operator,
-        value: Value::Int(number),
+/// A table whose key is a name and a number.
+const TWO_COLUMNS: &str = "CREATE TABLE emp (no INT, name VARCHAR(10), \
+    s TIMESTAMP GENERATED ALWAYS AS ROW START, e TIMESTAMP GENERATED ALWAYS AS ROW END, \
+    PERIOD FOR SYSTEM_TIME (s, e), PRIMARY KEY (name, no)) WITH SYSTEM VERSIONING";
+
+/// Comparisons with numbers, and with a name.
+type Compared = (&'static [(Operator, i64)], Option<(Operator, &'static str)>);
+
+/// The keys of table 1 that meet comparisons.
+fn keys_of(rt: &impl Abort, alloc: Global, (numbers, name): Compared) -> Keys {
+    let mut comparisons = Vec::new(alloc);
+    for (operator, number) in numbers {
+        let comparison = Comparison {
+            column: 1,
+            operator: *operator,
+            value: Value::Int(*number),
+        };
+        comparisons.push(comparison).expect(rt, "there is memory");
+    }
+    if let Some((operator, name)) = name {
+        let comparison = Comparison {
+            column: 2,
+            operator,
+            value: text(rt, alloc, name),
+        };
+        comparisons.push(comparison).expect(rt, "there is memory");
+    }
+    Keys {
+        table: 1,
+        comparisons: Sequence::new(comparisons),
     }
 }
 
-/// A list of one comparison.
-fn one(rt: &impl Abort, alloc: Global, comparison: Comparison) -> Vec<Comparison> {
-    let comparisons = vec![in alloc; comparison];
-    comparisons.expect(rt, "there is memory")
-}
-
-/// A list of two comparisons.
-fn two(rt: &impl Abort, alloc: Global, first: Comparison, second: Comparison) -> Vec<Comparison> {
-    let comparisons = vec![in alloc; first, second];
-    comparisons.expect(rt, "there is memory")
-}
-
-/// Whether comparisons on the keys of the first table leave this range.
-fn leave_of(
+/// Whether comparisons leave this range.
+fn leave(
     rt: &impl Abort,
     alloc: Global,
     schema: &Schema,
-    comparisons: Vec<Comparison>,
+    compared: Compared,
     lo: &[u8],
     hi: &[u8],
 ) -> bool {
-    let keys = Keys {
-        table: 1,
-        comparisons: Sequence::new(comparisons),
-    };
+    let keys = keys_of(rt, alloc, compared);
     let keys = fit_keys(schema, 1, &keys).expect(rt, "they fit");
     let search = Search::new(alloc, keys).expect(rt, "there is memory");
     let range = search.range(alloc).expect(rt, "there is memory");
     is_range(&range, lo, hi)
 }
 
-/// Whether the comparisons leave this range of the sample table.
-fn leave(
-    rt: &impl Abort,
-    alloc: Global,
-    comparisons: Vec<Comparison>,
-    lo: &[u8],
-    hi: &[u8],
-) -> bool {
-    let schema = Schema::sample(alloc).expect(rt, "there is memory");
-    leave_of(rt, alloc, &schema, comparisons, lo, hi)
-}
-
-/// Whether one comparison with a number leaves this range.
-fn leaves(
-    rt: &impl Abort,
-    alloc: Global,
-    operator: Operator,
-    bound: i64,
-    lo: &[u8],
-    hi: &[u8],
-) -> bool {
-    let comparisons = one(rt, alloc, number(operator, bound));
-    leave(rt, alloc, comparisons, lo, hi)
-}
-
 const TABLE: &[u8] = b"\x01";
 
 const NEXT_TABLE: &[u8] = b"\x02";
 
-#[test]
-fn an_equal_number_leaves_its_key(rt: HostRuntime) {
-    let lo = b"\x01\x80\x00\x00\x00\x00\x00\x00\x01";
-    let hi = b"\x01\x80\x00\x00\x00\x00\x00\x00\x02";
-    assert!(rt; leaves(&rt, rt.alloc(), Operator::Equal, 1, lo, hi));
-}
+const TWO: &[u8] = b"\x01\x80\x00\x00\x00\x00\x00\x00\x02";
+
+const SIX: &[u8] = b"\x01\x80\x00\x00\x00\x00\x00\x00\x06";
+
+/// Comparisons with the number of the sample table, and the range that they leave.
+const RANGES: &[(&[(Operator, i64)], &[u8], &[u8])] = &[
+    (
+        &[(Operator::Equal, 1)],
+        b"\x01\x80\x00\x00\x00\x00\x00\x00\x01",
+        TWO,
+    ),
+    // a lower bound is a start
+    (&[(Operator::Above, 1)], TWO, NEXT_TABLE),
+    (&[(Operator::AtLeast, 2)], TWO, NEXT_TABLE),
+    (&[(Operator::Above, i64::MAX)], NEXT_TABLE, NEXT_TABLE),
+    // an upper bound is an end
+    (&[(Operator::AtMost, 5)], TABLE, SIX),
+    (&[(Operator::Below, 6)], TABLE, SIX),
+    (
+        &[(Operator::AtMost, 255)],
+        TABLE,
+        b"\x01\x80\x00\x00\x00\x00\x00\x01",
+    ),
+    // bounds that no number meets leave an empty range
+    (
+        &[(Operator::Above, 5), (Operator::Below, 3)],
+        SIX,
+        b"\x01\x80\x00\x00\x00\x00\x00\x00\x03",
+    ),
+];
 
 #[test]
-fn a_lower_bound_is_a_start(rt: HostRuntime) {
-    let two = b"\x01\x80\x00\x00\x00\x00\x00\x00\x02".as_slice();
-    for (operator, bound, lo) in [
-        (Operator::Above, 1, two),
-        (Operator::AtLeast, 2, two),
-        (Operator::Above, i64::MAX, NEXT_TABLE),
-    ] {
-        let is_left = leaves(&rt, rt.alloc(), operator, bound, lo, NEXT_TABLE);
-        assert!(rt; is_left, "from {bound}");
+fn comparisons_with_a_number_leave_a_range(rt: HostRuntime) {
+    let sample = Schema::sample(rt.alloc()).expect(&rt, "there is memory");
+    for (place, (numbers, lo, hi)) in RANGES.iter().enumerate() {
+        let is_left = leave(&rt, rt.alloc(), &sample, (numbers, None), lo, hi);
+        assert!(rt; is_left, "at {place}");
     }
 }
 
-#[test]
-fn an_upper_bound_is_an_end(rt: HostRuntime) {
-    let six = b"\x01\x80\x00\x00\x00\x00\x00\x00\x06".as_slice();
-    let after_255 = b"\x01\x80\x00\x00\x00\x00\x00\x01".as_slice();
-    for (operator, bound, hi) in [
-        (Operator::AtMost, 5, six),
-        (Operator::Below, 6, six),
-        (Operator::AtMost, 255, after_255),
-    ] {
-        let is_left = leaves(&rt, rt.alloc(), operator, bound, TABLE, hi);
-        assert!(rt; is_left, "to {bound}");
-    }
-}
-
-/// Whether the comparisons `> 5` and `< 3` leave this range.
-fn contrary_leave(rt: &impl Abort, alloc: Global, lo: &[u8], hi: &[u8]) -> bool {
-    let above = number(Operator::Above, 5);
-    let comparisons = two(rt, alloc, above, number(Operator::Below, 3));
-    leave(rt, alloc, comparisons, lo, hi)
-}
-
-#[test]
-fn bounds_that_no_number_meets_leave_an_empty_range(rt: HostRuntime) {
-    let six = b"\x01\x80\x00\x00\x00\x00\x00\x00\x06";
-    let three = b"\x01\x80\x00\x00\x00\x00\x00\x00\x03";
-    assert!(rt; contrary_leave(&rt, rt.alloc(), six, three));
-}
-
-fn text(rt: &impl Abort, alloc: Global, text: &str) -> Chars {
-    Chars::copy_of(alloc, text).expect(rt, "there is memory")
-}
-
-/// A table whose key is a name and a number.
-const TWO_COLUMNS: &[u8] = b"CREATE TABLE emp (no INT, name VARCHAR(10), \
-    s TIMESTAMP GENERATED ALWAYS AS ROW START, e TIMESTAMP GENERATED ALWAYS AS ROW END, \
-    PERIOD FOR SYSTEM_TIME (s, e), PRIMARY KEY (name, no)) WITH SYSTEM VERSIONING";
-
-/// Whether the comparisons leave this range of that table.
-fn leave_two(
-    rt: &impl Abort,
-    alloc: Global,
-    comparisons: Vec<Comparison>,
-    lo: &[u8],
-    hi: &[u8],
-) -> bool {
-    let Ok(schema) = Schema::read(alloc, TWO_COLUMNS) else {
-        return false;
-    };
-    leave_of(rt, alloc, &schema, comparisons, lo, hi)
-}
-
-/// Whether the name `a`, compared so, and a number of at least 2 leave this range of that table.
-fn name_and_number_leave(
-    rt: &impl Abort,
-    alloc: Global,
-    operator: Operator,
-    lo: &[u8],
-    hi: &[u8],
-) -> bool {
-    let name = Comparison {
-        column: 2,
-        operator,
-        value: Value::Text(text(rt, alloc, "a")),
-    };
-    let comparisons = two(rt, alloc, number(Operator::AtLeast, 2), name);
-    leave_two(rt, alloc, comparisons, lo, hi)
-}
+/// Comparisons with the table of two columns, and the range that they leave.
+const RANGES_OF_TWO: &[(Compared, &[u8], &[u8])] = &[
+    (
+        (&[(Operator::AtLeast, 2)], Some((Operator::Equal, "a"))),
+        b"\x01a\x00\x00\x80\x00\x00\x00\x00\x00\x00\x02",
+        b"\x01a\x00\x01",
+    ),
+    (
+        (&[(Operator::AtLeast, 2)], Some((Operator::AtLeast, "a"))),
+        b"\x01a\x00\x00",
+        NEXT_TABLE,
+    ),
+    // a later column alone leaves the table
+    ((&[(Operator::Equal, 2)], None), TABLE, NEXT_TABLE),
+];
 
 #[test]
 fn a_column_narrows_behind_equal_ones_alone(rt: HostRuntime) {
-    let a = b"\x01a\x00\x00".as_slice();
-    let a_and_2 = b"\x01a\x00\x00\x80\x00\x00\x00\x00\x00\x00\x02".as_slice();
-    let after_a = b"\x01a\x00\x01".as_slice();
-    for (operator, lo, hi) in [
-        (Operator::Equal, a_and_2, after_a),
-        (Operator::AtLeast, a, NEXT_TABLE),
-    ] {
-        assert!(rt; name_and_number_leave(&rt, rt.alloc(), operator, lo, hi));
+    let schema = schema(&rt, rt.alloc(), TWO_COLUMNS);
+    for (place, (compared, lo, hi)) in RANGES_OF_TWO.iter().enumerate() {
+        let is_left = leave(&rt, rt.alloc(), &schema, *compared, lo, hi);
+        assert!(rt; is_left, "at {place}");
     }
-}
-
-/// Whether a number of 2 leaves this range of that table.
-fn later_column_leaves(rt: &impl Abort, alloc: Global, lo: &[u8], hi: &[u8]) -> bool {
-    let comparisons = one(rt, alloc, number(Operator::Equal, 2));
-    leave_two(rt, alloc, comparisons, lo, hi)
-}
-
-#[test]
-fn a_later_column_alone_leaves_the_table(rt: HostRuntime) {
-    assert!(rt; later_column_leaves(&rt, rt.alloc(), TABLE, NEXT_TABLE));
 }
 
 /// Whether the range of a table's keys is this.
@@ -214,138 +152,79 @@ fn a_table_has_the_keys_that_begin_with_its_number(rt: HostRuntime) {
     assert!(rt; table_has(&rt, rt.alloc(), 255, b"\xff", b""));
 }
 
-/// Whether comparisons on the keys of the first table take the one key of these values, also by its
-/// bytes; no values are no key.
-fn takes_one(
-    rt: &impl Abort,
-    alloc: Global,
-    schema: &Schema,
-    comparisons: Vec<Comparison>,
-    parts: Vec<Value>,
-) -> bool {
-    let keys = Keys {
-        table: 1,
-        comparisons: Sequence::new(comparisons),
-    };
-    let keys = fit_keys(schema, 1, &keys).expect(rt, "they fit");
-    let search = Search::new(alloc, keys).expect(rt, "there is memory");
-    let key = Key {
+/// The key of a name, where there is one, and of the last of these numbers.
+fn key_of(rt: &impl Abort, alloc: Global, (numbers, name): Compared) -> Key {
+    let mut parts = Vec::new(alloc);
+    if let Some((_operator, name)) = name {
+        parts
+            .push(text(rt, alloc, name))
+            .expect(rt, "there is memory");
+    }
+    if let Some((_operator, number)) = numbers.last() {
+        parts
+            .push(Value::Int(*number))
+            .expect(rt, "there is memory");
+    }
+    Key {
         table: 1,
         parts: Values::new(parts),
-    };
+    }
+}
+
+/// Whether comparisons take one key, and then whether that is theirs, also by its bytes.
+fn takes_key(rt: &impl Abort, alloc: Global, schema: &Schema, compared: Compared) -> Option<bool> {
+    let keys = keys_of(rt, alloc, compared);
+    let keys = fit_keys(schema, 1, &keys).expect(rt, "they fit");
+    let search = Search::new(alloc, keys).expect(rt, "there is memory");
     match search.key() {
-        None => key.parts.items().is_empty(),
+        None => None,
         Some(found) => {
             let bytes = key_bytes(alloc, found).expect(rt, "there is memory");
-            *found == key && search.takes(alloc, &bytes).expect(rt, "there is memory")
+            let is_taken = search.takes(alloc, &bytes).expect(rt, "there is memory");
+            Some(is_taken && *found == key_of(rt, alloc, compared))
         }
     }
 }
 
-/// Whether 5, compared as equal, and another comparison with a number take the key 5 of the sample
-/// table, or no one key.
-fn five_and(
-    rt: &impl Abort,
-    alloc: Global,
-    operator: Operator,
-    bound: i64,
-    is_taken: bool,
-) -> bool {
-    let schema = Schema::sample(alloc).expect(rt, "there is memory");
-    let five = number(Operator::Equal, 5);
-    let comparisons = two(rt, alloc, number(operator, bound), five);
-    let mut parts = Vec::new(alloc);
-    if is_taken {
-        parts.push(Value::Int(5)).expect(rt, "there is memory");
-    }
-    takes_one(rt, alloc, &schema, comparisons, parts)
-}
+/// Comparisons with the number of the sample table, and whether they take one key.
+const KEYS: &[(&[(Operator, i64)], Option<bool>)] = &[
+    (&[(Operator::Equal, 5), (Operator::Equal, 5)], Some(true)),
+    (&[(Operator::Equal, 4), (Operator::Equal, 5)], None),
+    (&[(Operator::Below, 5), (Operator::Equal, 5)], None),
+    (&[(Operator::Below, 6), (Operator::Equal, 5)], Some(true)),
+    (&[(Operator::AtMost, 5), (Operator::Equal, 5)], Some(true)),
+    (&[(Operator::Above, 5), (Operator::Equal, 5)], None),
+    (&[(Operator::AtLeast, 5), (Operator::Equal, 5)], Some(true)),
+    // an equality alone gives a number
+    (&[(Operator::Equal, 7)], Some(true)),
+    (&[(Operator::AtLeast, 7)], None),
+    (&[(Operator::AtMost, 7)], None),
+];
 
 #[test]
 fn a_number_that_is_given_is_the_key_where_it_meets_the_rest(rt: HostRuntime) {
-    for (operator, bound, is_taken) in [
-        (Operator::Equal, 5, true),
-        (Operator::Equal, 4, false),
-        (Operator::Below, 5, false),
-        (Operator::Below, 6, true),
-        (Operator::AtMost, 5, true),
-        (Operator::Above, 5, false),
-        (Operator::AtLeast, 5, true),
-    ] {
-        assert!(rt;
-            five_and(&rt, rt.alloc(), operator, bound, is_taken),
-            "{operator:?} {bound}"
-        );
+    let sample = Schema::sample(rt.alloc()).expect(&rt, "there is memory");
+    for (place, (numbers, is_taken)) in KEYS.iter().enumerate() {
+        let found = takes_key(&rt, rt.alloc(), &sample, (numbers, None));
+        assert!(rt; found == *is_taken, "at {place}");
     }
 }
 
-/// Whether one comparison with a number takes the key of that number, or no one key.
-fn one_takes(rt: &impl Abort, alloc: Global, operator: Operator, is_taken: bool) -> bool {
-    let schema = Schema::sample(alloc).expect(rt, "there is memory");
-    let mut parts = Vec::new(alloc);
-    if is_taken {
-        parts.push(Value::Int(7)).expect(rt, "there is memory");
-    }
-    takes_one(
-        rt,
-        alloc,
-        &schema,
-        one(rt, alloc, number(operator, 7)),
-        parts,
-    )
-}
-
-#[test]
-fn an_equality_alone_gives_a_number(rt: HostRuntime) {
-    assert!(rt; one_takes(&rt, rt.alloc(), Operator::Equal, true));
-    assert!(rt; one_takes(&rt, rt.alloc(), Operator::AtLeast, false));
-    assert!(rt; one_takes(&rt, rt.alloc(), Operator::AtMost, false));
-}
-
-/// A comparison of the name with a text.
-fn name(rt: &impl Abort, alloc: Global, operator: Operator, name: &str) -> Comparison {
-    Comparison {
-        column: 2,
-        operator,
-        value: Value::Text(text(rt, alloc, name)),
-    }
-}
-
-/// Whether the number 2 and a name that compares so take the key of that name and that number, or
-/// no one key.
-fn name_and_2(
-    rt: &impl Abort,
-    alloc: Global,
-    operator: Operator,
-    called: &str,
-    is_taken: bool,
-) -> bool {
-    let Ok(schema) = Schema::read(alloc, TWO_COLUMNS) else {
-        return false;
-    };
-    let two_is = number(Operator::Equal, 2);
-    let comparisons = two(rt, alloc, two_is, name(rt, alloc, operator, called));
-    let mut parts = Vec::new(alloc);
-    if is_taken {
-        let value = Value::Text(text(rt, alloc, called));
-        parts.push(value).expect(rt, "there is memory");
-        parts.push(Value::Int(2)).expect(rt, "there is memory");
-    }
-    takes_one(rt, alloc, &schema, comparisons, parts)
-}
+/// How the name is compared, beside the number 2, and whether this takes one key.
+const NAMES: &[(Operator, &str, Option<bool>)] = &[
+    (Operator::Equal, "a", Some(true)),
+    (Operator::Equal, "", Some(true)),
+    (Operator::Equal, "ten is 10.", Some(true)),
+    (Operator::Equal, "eleven, 11.", None),
+    (Operator::AtLeast, "a", None),
+];
 
 #[test]
 fn a_key_of_two_columns_is_given_in_any_order_and_whole(rt: HostRuntime) {
-    for (operator, called, is_taken) in [
-        (Operator::Equal, "a", true),
-        (Operator::Equal, "", true),
-        (Operator::Equal, "ten is 10.", true),
-        (Operator::Equal, "eleven, 11.", false),
-        (Operator::AtLeast, "a", false),
-    ] {
-        assert!(rt;
-            name_and_2(&rt, rt.alloc(), operator, called, is_taken),
-            "{called}"
-        );
+    let schema = schema(&rt, rt.alloc(), TWO_COLUMNS);
+    for (operator, name, is_taken) in NAMES {
+        let compared: Compared = (&[(Operator::Equal, 2)], Some((*operator, *name)));
+        let found = takes_key(&rt, rt.alloc(), &schema, compared);
+        assert!(rt; found == *is_taken, "{name}");
     }
 }

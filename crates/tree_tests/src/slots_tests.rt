@@ -50,15 +50,10 @@ fn share(rt: &impl Abort, list: &Slots<usize>) -> Slots<usize> {
     list.share().expect(rt, "there is memory")
 }
 
-/// How long a list of numbers is, and whether it has them in order.
-fn four_levels(rt: &impl Abort, alloc: Global) -> (usize, bool) {
-    let list = numbers(rt, alloc, 4200);
-    (list.len(), has_all_below(&list, 4200))
-}
-
 #[test]
 fn a_list_of_four_levels_has_each_item_in_its_place(rt: HostRuntime) {
-    assert!(rt; four_levels(&rt, rt.alloc()) == (4200, true));
+    let list = numbers(&rt, rt.alloc(), 4200);
+    assert!(rt; list.len() == 4200 && has_all_below(&list, 4200));
 }
 
 /// Whether a list has its last number and one in the middle, and has nothing behind it.
@@ -128,6 +123,7 @@ fn filled_shares(rt: &impl Abort, alloc: Global) -> Last {
 #[test]
 fn a_share_changes_by_itself(rt: HostRuntime) {
     assert!(rt; filled_shares(&rt, rt.alloc()) == (Some(39), Some(1), Some(2)));
+    assert!(rt; 5usize.share().ok() == Some(5));
 }
 
 fn is_added(list: &mut Slots<usize>, number: usize) -> bool {
@@ -153,11 +149,6 @@ fn grown_after_refusals(alloc: Global, bound: usize) -> bool {
 #[test]
 fn a_refused_growth_changes_nothing(rt: HostRuntime) {
     assert!(rt; grown_after_refusals(rt.alloc(), 40));
-}
-
-#[test]
-fn a_number_is_shared(rt: HostRuntime) {
-    assert!(rt; 5usize.share().ok() == Some(5));
 }
 
 /// A number that another is put in the place of.
@@ -226,13 +217,6 @@ fn are_updated(
     (has_marks(&before, was), has_marks(&list, is))
 }
 
-#[test]
-fn an_item_is_changed_and_a_share_keeps_it(rt: HostRuntime) {
-    let was = (16, 1000, 299);
-    let is = (16, 2000, 3000);
-    assert!(rt; are_updated(&rt, rt.alloc(), was, is) == (true, true));
-}
-
 /// Whether each of 40 marks is its place and so much more.
 fn are_marked(list: &Slots<Mark>, more: usize) -> bool {
     for place in 0..40usize {
@@ -255,5 +239,7 @@ fn are_all_updated(rt: &impl Abort, alloc: Global) -> (bool, bool) {
 
 #[test]
 fn each_item_is_changed_and_a_share_keeps_all(rt: HostRuntime) {
+    let one_is_changed = are_updated(&rt, rt.alloc(), (16, 1000, 299), (16, 2000, 3000));
+    assert!(rt; one_is_changed == (true, true));
     assert!(rt; are_all_updated(&rt, rt.alloc()) == (true, true));
 }

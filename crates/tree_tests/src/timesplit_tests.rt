@@ -2,7 +2,7 @@
 ghost use Rattle.std.specs.Prelude.{IsTrue};
 ghost use Rattle.keyrange.specs.Cut.{is_time_inside};
 
-use crate::sample::{empty_node, put, sample_node};
+use crate::sample::{ONE_KEY, empty_node, node_of, put};
 use datanode::DataNode;
 use std::alloc::Global;
 use std::process::Abort;
@@ -37,26 +37,18 @@ fn sizes_and_ends(rt: &impl Abort, node: &DataNode, instant: Instant) -> Halves 
     )
 }
 
-/// The same of the sample.
-fn sample_halves(rt: &impl Abort, alloc: Global, instant: Instant) -> Halves {
-    sizes_and_ends(rt, &sample_node(rt, alloc), instant)
+/// The same of the node of one key.
+fn halves_of_one_key(rt: &impl Abort, alloc: Global, instant: Instant) -> Halves {
+    sizes_and_ends(rt, &node_of(rt, alloc, ONE_KEY), instant)
 }
 
 #[test]
 fn a_row_stays_in_the_past_and_is_carried_and_a_deletion_is_not(rt: HostRuntime) {
     for (instant, past, now) in [(150, 1, 2), (200, 1, 1), (250, 2, 0)] {
-        let (before, since, staying, _end, _start) = sample_halves(&rt, rt.alloc(), instant);
-        assert!(rt;
-            (before, since, staying) == (past, now, now),
-            "at {instant}"
-        );
+        let found = halves_of_one_key(&rt, rt.alloc(), instant);
+        let halves = (past, now, now, Some(instant), instant);
+        assert!(rt; found == halves, "at {instant}");
     }
-}
-
-#[test]
-fn halves_end_and_begin_at_the_instant(rt: HostRuntime) {
-    let (_before, _since, _staying, end, start) = sample_halves(&rt, rt.alloc(), 150);
-    assert!(rt; (end, start) == (Some(150), 150));
 }
 
 /// A change of a key's byte at an instant, to a row or to none, and where the node is split after

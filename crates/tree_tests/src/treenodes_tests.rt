@@ -99,24 +99,47 @@ fn has_row(rt: &impl Abort, alloc: Global, nodes: &Nodes, number: u8, at: Instan
     is_there
 }
 
-/// How many nodes the tree of two rows has, and whether a key has a row at an instant.
-fn count_and_row(rt: &impl Abort, alloc: Global, number: u8, at: Instant) -> (usize, bool)
-    requires { 1 ≤ at }
+/// The tree of two rows, or that of both nodes of history packed.
+fn one_or_packed(rt: &impl Abort, alloc: Global, is_packed: bool) -> Nodes
+    ensures { IsTree result }
 {
-    let nodes = two_rows(rt, alloc);
+    if is_packed {
+        some_packed(rt, alloc, 1, 3)
+    } else {
+        two_rows(rt, alloc)
+    }
+}
+
+/// How many nodes that tree has, and whether a key has a row at an instant.
+fn count_and_row(
+    rt: &impl Abort,
+    alloc: Global,
+    is_packed: bool,
+    number: u8,
+    at: Instant,
+) -> (usize, bool) {
+    assert!(rt; 1 <= at);
+    let nodes = one_or_packed(rt, alloc, is_packed);
     (nodes.len(), has_row(rt, alloc, &nodes, number, at))
 }
 
 #[test]
 fn a_row_stands_from_its_instant_on(rt: HostRuntime) {
-    for (number, at, there) in [
-        (1, 99, false),
-        (1, 100, true),
-        (2, 199, false),
-        (2, 200, true),
+    for (is_packed, number, at, found) in [
+        (false, 1, 99, (1, false)),
+        (false, 1, 100, (1, true)),
+        (false, 2, 199, (1, false)),
+        (false, 2, 200, (1, true)),
+        (true, 1, 99, (4, false)),
+        (true, 1, 100, (4, true)),
+        (true, 1, 150, (4, true)),
+        (true, 2, 199, (4, false)),
+        (true, 2, 200, (4, true)),
     ] {
-        let found = count_and_row(&rt, rt.alloc(), number, at);
-        assert!(rt; found == (1, there), "{number} at {at}");
+        assert!(rt;
+            count_and_row(&rt, rt.alloc(), is_packed, number, at) == found,
+            "{number} at {at}"
+        );
     }
 }
 
@@ -147,43 +170,46 @@ fn a_share_keeps_its_nodes(rt: HostRuntime) {
     assert!(rt; counts_of_both(&rt, rt.alloc()) == Some((1, 3)));
 }
 
-/// The number of the data node of a key at an instant, and how many nodes lead to it, in the tree
-/// of two halves.
-fn place_in_halves(rt: &impl Abort, alloc: Global, number: u8, at: Instant) -> (usize, usize)
-    requires { 1 ≤ at }
+/// The tree of two halves at 200, or of three parts.
+fn halves_or_parts(rt: &impl Abort, alloc: Global, has_three: bool) -> Nodes
+    ensures { IsTree result }
 {
-    let nodes = two_halves(rt, alloc, 200);
-    leaf_at(&nodes, &key(rt, alloc, number), at)
-}
-
-#[test]
-fn a_raised_root_is_split(rt: HostRuntime) {
-    for (number, at, found) in [(1, 199, (1, 2)), (1, 200, (2, 2)), (2, 250, (2, 2))] {
-        let place = place_in_halves(&rt, rt.alloc(), number, at);
-        assert!(rt; place == found, "{number} at {at}");
+    if has_three {
+        three_parts(rt, alloc)
+    } else {
+        two_halves(rt, alloc, 200)
     }
 }
 
-/// The same at 250 in the tree of three parts.
-fn place_in_parts(rt: &impl Abort, alloc: Global, number: u8) -> (usize, usize) {
-    let nodes = three_parts(rt, alloc);
-    leaf_at(&nodes, &key(rt, alloc, number), 250)
-}
-
-/// Whether the way to key 2 goes from the root to node 3.
-fn is_way_from_root(rt: &impl Abort, alloc: Global) -> bool {
-    let nodes = three_parts(rt, alloc);
-    let way = way(alloc, &nodes, &key(rt, alloc, 2), 250);
-    way.expect(rt, "there is memory").as_slice() == [0, 3].as_slice()
+/// The number of the data node of a key at an instant in that tree, how many nodes lead to it, and
+/// whether it is below the root.
+fn place_in(
+    rt: &impl Abort,
+    alloc: Global,
+    has_three: bool,
+    number: u8,
+    at: Instant,
+) -> (usize, usize, bool) {
+    assert!(rt; 1 <= at);
+    let nodes = halves_or_parts(rt, alloc, has_three);
+    let key = key(rt, alloc, number);
+    let (leaf, visits) = leaf_at(&nodes, &key, at);
+    let way = way(alloc, &nodes, &key, at).expect(rt, "there is memory");
+    (leaf, visits, way.as_slice() == [0, leaf].as_slice())
 }
 
 #[test]
 fn a_leaf_below_the_root_is_split(rt: HostRuntime) {
-    for (number, found) in [(1, (2, 2)), (2, (3, 2))] {
-        let place = place_in_parts(&rt, rt.alloc(), number);
-        assert!(rt; place == found, "{number}");
+    for (has_three, number, at, leaf) in [
+        (false, 1, 199, 1),
+        (false, 1, 200, 2),
+        (false, 2, 250, 2),
+        (true, 1, 250, 2),
+        (true, 2, 250, 3),
+    ] {
+        let found = place_in(&rt, rt.alloc(), has_three, number, at);
+        assert!(rt; found == (leaf, 2, true), "{number} at {at}");
     }
-    assert!(rt; is_way_from_root(&rt, rt.alloc()));
 }
 
 /// When a node starts; 0 where there is none.
@@ -223,27 +249,6 @@ fn a_packed_node_is_on_the_list_no_more(rt: HostRuntime) {
     ] {
         let found = starts_left(&rt, rt.alloc(), from, to);
         assert!(rt; found == starts, "from {from} to {to}");
-    }
-}
-
-/// Whether a key has a row at an instant, with both nodes of history packed.
-fn has_packed_row(rt: &impl Abort, alloc: Global, number: u8, at: Instant) -> bool
-    requires { 1 ≤ at }
-{
-    has_row(rt, alloc, &some_packed(rt, alloc, 1, 3), number, at)
-}
-
-#[test]
-fn a_row_is_read_off_the_block_of_its_node(rt: HostRuntime) {
-    for (number, at, there) in [
-        (1, 99, false),
-        (1, 100, true),
-        (1, 150, true),
-        (2, 199, false),
-        (2, 200, true),
-    ] {
-        let found = has_packed_row(&rt, rt.alloc(), number, at);
-        assert!(rt; found == there, "{number} at {at}");
     }
 }
 

@@ -35,208 +35,118 @@ fn some(rt: &impl Abort, alloc: Global, is_packed: bool) -> Nodes
     }
 }
 
-fn count_events(
-    rt: &impl Abort,
-    alloc: Global,
-    is_packed: bool,
-    from: Instant,
-    to: Instant,
-) -> usize {
-    let nodes = some(rt, alloc, is_packed);
-    let mut blocks = InPlace::new(alloc);
-    let events = events(alloc, &mut blocks, &nodes, &all_keys(alloc), from, to);
-    count(rt, events)
-}
-
-#[test]
-fn a_carried_event_is_listed_once(rt: HostRuntime) {
-    for is_packed in [false, true] {
-        for (from, to, count) in [
-            (0, u64::MAX, 3),
-            (1, 199, 2),
-            (101, 150, 1),
-            (201, 300, 0),
-            (2, 1, 0),
-        ] {
-            let found = count_events(&rt, rt.alloc(), is_packed, from, to);
-            assert!(rt; found == count, "from {from} to {to}");
-        }
-    }
-}
-
-fn count_standing(rt: &impl Abort, alloc: Global, is_packed: bool, at: Instant) -> usize {
-    let nodes = some(rt, alloc, is_packed);
-    let mut blocks = InPlace::new(alloc);
-    let rows = standing(alloc, &mut blocks, &nodes, &all_keys(alloc), at);
-    count(rt, rows)
-}
-
-#[test]
-fn a_row_stands_until_its_key_is_changed(rt: HostRuntime) {
-    for is_packed in [false, true] {
-        for (at, count) in [
-            (0, 0),
-            (99, 0),
-            (100, 1),
-            (199, 2),
-            (200, 1),
-            (250, 1),
-            (u64::MAX, 1),
-        ] {
-            let found = count_standing(&rt, rt.alloc(), is_packed, at);
-            assert!(rt; found == count, "at {at}");
-        }
-    }
-}
-
-/// How many events of a key are in a window.
-fn count_in_window(
+/// How many events there are from an instant to another, how many rows stand at the other, and how
+/// many events of a key are in that window.
+fn counts_between(
     rt: &impl Abort,
     alloc: Global,
     is_packed: bool,
     number: u8,
     first: Instant,
     last: Instant,
-) -> usize {
+) -> (usize, usize, usize) {
     let nodes = some(rt, alloc, is_packed);
     let key = key(rt, alloc, number);
     let range = all_keys(alloc);
-    if !range.contains(&key) {
-        return usize::MAX;
-    }
+    assert!(rt; range.contains(&key));
     let mut blocks = InPlace::new(alloc);
+    let listed = events(alloc, &mut blocks, &nodes, &range, first, last);
+    let rows = standing(alloc, &mut blocks, &nodes, &range, last);
     let found = key_window(alloc, &mut blocks, &nodes, &key, &range, first, last);
-    count(rt, found)
+    (count(rt, listed), count(rt, rows), count(rt, found))
 }
 
-/// A key, the first and the last instant of a window, and how many of its events are in it.
-const WINDOWS: &[(u8, Instant, Instant, usize)] = &[
-    (1, 0, u64::MAX, 2),
-    (1, 100, 100, 1),
-    (1, 150, 250, 2),
-    (1, 200, 300, 0),
-    (2, 149, 300, 1),
-    (2, 150, 250, 1),
-    (2, 250, u64::MAX, 1),
-    (2, 150, 149, 1),
-    (3, 0, u64::MAX, 0),
+/// A key, the first and the last instant of a window, how many events are in it, how many rows
+/// stand at its end, and how many events of the key are in it.
+const WINDOWS: &[(u8, Instant, Instant, (usize, usize, usize))] = &[
+    (1, 0, u64::MAX, (3, 1, 2)),
+    (1, 1, 199, (2, 2, 1)),
+    (1, 101, 150, (1, 2, 1)),
+    (1, 201, 300, (0, 1, 0)),
+    (1, 2, 1, (0, 0, 0)),
+    (3, 0, 0, (0, 0, 0)),
+    (1, 0, 99, (0, 0, 0)),
+    (1, 100, 100, (1, 1, 1)),
+    (1, 100, 200, (3, 1, 2)),
+    (1, 150, 250, (2, 1, 2)),
+    (1, 200, 300, (1, 1, 0)),
+    (2, 149, 300, (2, 1, 1)),
+    (2, 150, 250, (2, 1, 1)),
+    (2, 250, u64::MAX, (0, 1, 1)),
+    (2, 150, 149, (0, 1, 1)),
+    (3, 0, u64::MAX, (3, 1, 0)),
 ];
 
 #[test]
 fn a_key_is_followed_from_leaf_to_leaf(rt: HostRuntime) {
     for is_packed in [false, true] {
-        for (number, first, last, count) in WINDOWS {
-            let found = count_in_window(&rt, rt.alloc(), is_packed, *number, *first, *last);
-            assert!(rt; found == *count, "key {number} from {first} to {last}");
+        for (number, first, last, counts) in WINDOWS {
+            let found = counts_between(&rt, rt.alloc(), is_packed, *number, *first, *last);
+            assert!(rt; found == *counts, "key {number} from {first} to {last}");
         }
     }
 }
 
-/// When a key was last changed after an instant; 0 where it was not.
-fn last_change_of(
-    rt: &impl Abort,
-    alloc: Global,
-    is_packed: bool,
-    number: u8,
-    since: Instant,
-) -> Instant {
-    let nodes = some(rt, alloc, is_packed);
-    changed_since(&nodes, &key(rt, alloc, number), since).unwrap_or(0)
-}
-
-#[test]
-fn a_deletion_in_an_earlier_leaf_is_a_change(rt: HostRuntime) {
-    for is_packed in [false, true] {
-        for (number, since, at) in [
-            (1, 99, 200),
-            (1, 200, 0),
-            (2, 149, 150),
-            (2, 150, 0),
-            (3, 0, 0),
-        ] {
-            let found = last_change_of(&rt, rt.alloc(), is_packed, number, since);
-            assert!(rt; found == at, "key {number} since {since}");
-        }
-    }
-}
-
-/// When a key was last changed after an instant, 0 where it was not, and the number of its leaf, as
-/// they are found where a number is tried first.
-fn last_change_near(
+/// When a key was last changed after an instant and when it is next, 0 where it is not; and the
+/// last change and the number of its leaf, as they are found where a number is tried first.
+fn changes_of(
     rt: &impl Abort,
     alloc: Global,
     is_packed: bool,
     near: usize,
     number: u8,
-    since: Instant,
-) -> (Instant, usize) {
+    at: Instant,
+) -> (Instant, Instant, Instant, usize) {
     let nodes = some(rt, alloc, is_packed);
-    let (instant, leaf) = changed_since_near(&nodes, near, &key(rt, alloc, number), since);
-    (instant.unwrap_or(0), leaf)
+    let key = key(rt, alloc, number);
+    let (found, leaf) = changed_since_near(&nodes, near, &key, at);
+    (
+        changed_since(&nodes, &key, at).unwrap_or(0),
+        next_change(&nodes, &key, at).unwrap_or(0),
+        found.unwrap_or(0),
+        leaf,
+    )
 }
+
+/// A key, an instant, and when the key was last changed after it, and is next.
+const CHANGES: &[(u8, Instant, Instant, Instant)] = &[
+    (1, 0, 200, 100),
+    (1, 99, 200, 100),
+    (1, 100, 200, 200),
+    (1, 200, 0, 0),
+    (2, 149, 150, 150),
+    (2, 150, 0, 0),
+    (3, 0, 0, 0),
+    (1, MAX_INSTANT, 0, 0),
+    (1, u64::MAX, 0, 0),
+];
 
 #[test]
 fn a_last_change_is_the_same_whichever_node_is_tried_first(rt: HostRuntime) {
     for is_packed in [false, true] {
         for near in [0, 1, 2, 3, usize::MAX] {
-            for (number, since, at) in [
-                (1, 99, 200),
-                (1, 200, 0),
-                (2, 149, 150),
-                (2, 150, 0),
-                (3, 0, 0),
-                (1, MAX_INSTANT, 0),
-                (1, u64::MAX, 0),
-            ] {
-                let found = last_change_near(&rt, rt.alloc(), is_packed, near, number, since);
-                assert!(rt; found == (at, 2), "key {number} since {since} near {near}");
+            for (number, at, last, next) in CHANGES {
+                let found = changes_of(&rt, rt.alloc(), is_packed, near, *number, *at);
+                assert!(rt;
+                    found == (*last, *next, *last, 2),
+                    "key {number} at {at} near {near}"
+                );
             }
         }
     }
 }
 
-/// When a key is changed next after an instant; 0 where it is not.
-fn next(rt: &impl Abort, alloc: Global, is_packed: bool, number: u8, after: Instant) -> Instant {
-    let nodes = some(rt, alloc, is_packed);
-    next_change(&nodes, &key(rt, alloc, number), after).unwrap_or(0)
-}
-
-#[test]
-fn a_version_ends_at_the_next_change(rt: HostRuntime) {
-    for is_packed in [false, true] {
-        for (number, after, at) in [
-            (1, 0, 100),
-            (1, 99, 100),
-            (1, 100, 200),
-            (1, 200, 0),
-            (2, 149, 150),
-            (2, 150, 0),
-            (3, 0, 0),
-            (1, MAX_INSTANT, 0),
-            (1, u64::MAX, 0),
-        ] {
-            let found = next(&rt, rt.alloc(), is_packed, number, after);
-            assert!(rt; found == at, "key {number} after {after}");
-        }
-    }
-}
-
-/// How many leaves there are.
-fn count_leaves(rt: &impl Abort, alloc: Global) -> usize {
+/// How many leaves there are, and how many of them have an instant from 300 on.
+fn count_leaves(rt: &impl Abort, alloc: Global) -> (usize, usize) {
     let nodes = some(rt, alloc, true);
-    count(rt, leaves_in(alloc, &nodes, &whole(alloc)))
-}
-
-/// How many leaves have an instant from another on.
-fn count_leaves_from(rt: &impl Abort, alloc: Global, from: Instant) -> usize {
-    let nodes = some(rt, alloc, true);
-    count(rt, leaves_in(alloc, &nodes, &all(rt, alloc, from, None)))
+    let leaves = leaves_in(alloc, &nodes, &whole(alloc));
+    let later = leaves_in(alloc, &nodes, &all(rt, alloc, 300, None));
+    (count(rt, leaves), count(rt, later))
 }
 
 #[test]
 fn leaves_are_found_by_their_time(rt: HostRuntime) {
-    assert!(rt; count_leaves(&rt, rt.alloc()) == 2);
-    assert!(rt; count_leaves_from(&rt, rt.alloc(), 300) == 1);
+    assert!(rt; count_leaves(&rt, rt.alloc()) == (2, 1));
 }
 
 fn shape(rt: &impl Abort, alloc: Global, is_packed: bool) -> Shape {

@@ -1,6 +1,6 @@
 //! What views answer, of trees with few changes and with many. A test keeps no tree: each helper
 //! makes its own.
-use crate::answer::{answers_of, count, count_in_window, number_in_row};
+use crate::answer::{Answers, answers_of, count, count_in_window, number_in_row};
 use crate::growth::{
     changed_key, few_changes, few_changes_split, grow, many_keys_deleted, new_tree, one_key,
     one_key_split, one_row, split_at, two_parents,
@@ -10,87 +10,111 @@ use std::process::Abort;
 use tsbtree::{Tree, View};
 use values::{Instant, MAX_INSTANT};
 
-/// The number in the row of key 1 after few changes.
-fn number_at(rt: &impl Abort, alloc: Global, at: Instant) -> Option<i64> {
-    answers_of(rt, alloc, few_changes(rt, alloc), 1, at).0
-}
-
-#[test]
-fn a_row_stands_until_its_key_is_changed(rt: HostRuntime) {
-    for (at, value) in [
-        (0, None),
-        (99, None),
-        (100, Some(5)),
-        (199, Some(5)),
-        (200, None),
-        (u64::MAX, None),
-    ] {
-        assert!(rt; number_at(&rt, rt.alloc(), at) == value, "at {at}");
-    }
-}
-
-/// When a key was last changed above an instant, over a split.
-fn last_change_of(rt: &impl Abort, alloc: Global, number: u8, start: Instant) -> Option<Instant> {
-    let tree = few_changes_split(rt, alloc, &[150]);
-    answers_of(rt, alloc, tree, number, start).1
-}
-
-#[test]
-fn changes_are_found_over_a_split(rt: HostRuntime) {
-    for (number, start, at) in [
-        (1, 99, Some(200)),
-        (1, 200, None),
-        (2, 99, Some(100)),
-        (2, 100, None),
-    ] {
-        let found = last_change_of(&rt, rt.alloc(), number, start);
-        assert!(rt; found == at, "key {number} since {start}");
-    }
-}
-
-/// How many events of a key are in a window, over a split.
-fn in_window(rt: &impl Abort, alloc: Global, number: u8, first: Instant, last: Instant) -> usize {
-    let tree = few_changes_split(rt, alloc, &[150]);
-    count_in_window(rt, alloc, tree.current(), number, first, last)
-}
-
-#[test]
-fn a_key_is_followed_over_a_split(rt: HostRuntime) {
-    for (number, first, last, count) in [
-        (1, 0, MAX_INSTANT, 2),
-        (1, 150, 199, 1),
-        (1, 200, 300, 0),
-        (2, 99, 300, 1),
-        (2, 150, 300, 1),
-    ] {
-        let found = in_window(&rt, rt.alloc(), number, first, last);
-        assert!(rt; found == count, "key {number} from {first} to {last}");
-    }
-}
-
-/// How many events of key 1 are in a window, over 65 leaves of one instant each.
-fn in_window_of_leaves(rt: &impl Abort, alloc: Global, first: Instant, last: Instant) -> usize {
-    count_in_window(
+/// What a tree of few changes that is split at instants answers of a key at an instant.
+fn after_splits(
+    rt: &impl Abort,
+    alloc: Global,
+    instants: &[Instant],
+    number: u8,
+    at: Instant,
+) -> Answers {
+    answers_of(
         rt,
         alloc,
-        one_key_split(rt, alloc).current(),
-        1,
-        first,
-        last,
+        few_changes_split(rt, alloc, instants),
+        number,
+        at,
     )
 }
 
+/// Where a tree is split, a key, an instant, and what is answered of them.
+const ANSWERS: &[(&[Instant], u8, Instant, Answers)] = &[
+    (&[], 1, 0, (None, Some(200), Some(100), 3, 0)),
+    (&[], 1, 99, (None, Some(200), Some(100), 3, 0)),
+    (&[], 1, 100, (Some(5), Some(200), Some(200), 3, 2)),
+    (&[], 1, 199, (Some(5), Some(200), Some(200), 1, 2)),
+    (&[], 1, 200, (None, None, None, 1, 1)),
+    (&[], 1, u64::MAX, (None, None, None, 0, 1)),
+    (&[150], 1, 0, (None, Some(200), Some(100), 3, 0)),
+    (&[150], 1, 99, (None, Some(200), Some(100), 3, 0)),
+    (&[150], 1, 200, (None, None, None, 1, 1)),
+    (&[150], 2, 99, (None, Some(100), Some(100), 3, 0)),
+    (&[150], 2, 100, (Some(6), None, None, 3, 2)),
+    (FIVE, 1, 0, (None, Some(200), Some(100), 3, 0)),
+    (FIVE, 1, 100, (Some(5), Some(200), Some(200), 3, 2)),
+    (FIVE, 1, 119, (Some(5), Some(200), Some(200), 1, 2)),
+    (FIVE, 1, 200, (None, None, None, 1, 1)),
+    (FIVE, 2, 99, (None, Some(100), Some(100), 3, 0)),
+    (FIVE, 2, 100, (Some(6), None, None, 3, 2)),
+    (FIVE, 3, 0, (None, None, None, 3, 0)),
+];
+
+/// Five instants at which a tree of few changes is split.
+const FIVE: &[Instant] = &[120, 140, 160, 180, 200];
+
+#[test]
+fn a_row_stands_until_its_key_is_changed(rt: HostRuntime) {
+    let alloc = rt.alloc();
+    for (instants, number, at, answers) in ANSWERS {
+        assert!(rt;
+            after_splits(&rt, alloc, instants, *number, *at) == *answers,
+            "key {number} at {at}"
+        );
+    }
+    let events = answers_of(&rt, alloc, one_key(&rt, alloc), 1, 0).3;
+    assert!(rt; events == 65);
+}
+
+/// Trees in which a key is followed: of few changes over a split, of 65 leaves of one instant each,
+/// and where two nodes refer to one leaf.
+#[derive(Clone, Copy)]
+enum Followed {
+    Few,
+    Leaves,
+    TwoParents,
+}
+
+/// How many events of a key are in a window.
+fn in_window(
+    rt: &impl Abort,
+    alloc: Global,
+    followed: Followed,
+    number: u8,
+    first: Instant,
+    last: Instant,
+) -> usize {
+    let tree = match followed {
+        Followed::Few => few_changes_split(rt, alloc, &[150]),
+        Followed::Leaves => one_key_split(rt, alloc),
+        Followed::TwoParents => two_parents(rt, alloc),
+    };
+    count_in_window(rt, alloc, tree.current(), number, first, last)
+}
+
+/// A tree, a key, a window, and how many of the key's events are in it.
+const WINDOWS: &[(Followed, u8, Instant, Instant, usize)] = &[
+    (Followed::Few, 1, 0, MAX_INSTANT, 2),
+    (Followed::Few, 1, 150, 199, 1),
+    (Followed::Few, 1, 200, 300, 0),
+    (Followed::Few, 2, 99, 300, 1),
+    (Followed::Few, 2, 150, 300, 1),
+    (Followed::Leaves, 1, 0, MAX_INSTANT, 65),
+    (Followed::Leaves, 1, 1, 1, 1),
+    (Followed::Leaves, 1, 30, 40, 11),
+    (Followed::Leaves, 1, 64, 65, 2),
+    (Followed::Leaves, 1, 65, MAX_INSTANT, 1),
+    (Followed::TwoParents, 10, 0, MAX_INSTANT, 2),
+    (Followed::TwoParents, 40, 0, MAX_INSTANT, 2),
+    (Followed::TwoParents, 10, 199, MAX_INSTANT, 2),
+    (Followed::TwoParents, 40, 200, MAX_INSTANT, 1),
+    (Followed::TwoParents, 9, 0, MAX_INSTANT, 0),
+];
+
 #[test]
 fn a_key_is_followed_over_many_leaves(rt: HostRuntime) {
-    for (first, last, count) in [
-        (0, MAX_INSTANT, 65),
-        (1, 1, 1),
-        (30, 40, 11),
-        (64, 65, 2),
-        (65, MAX_INSTANT, 1),
-    ] {
-        let found = in_window_of_leaves(&rt, rt.alloc(), first, last);
-        assert!(rt; found == count, "from {first} to {last}");
+    for (followed, number, first, last, count) in WINDOWS {
+        let found = in_window(&rt, rt.alloc(), *followed, *number, *first, *last);
+        assert!(rt; found == *count, "key {number} from {first} to {last}");
     }
 }
 
@@ -102,7 +126,13 @@ fn in_all(rt: &impl Abort, alloc: Global, number: u8) -> usize {
 
 /// How many of its instants change a key.
 fn count_changes(number: u8) -> usize {
-    (1..163u8).filter(|at| changed_key(*at) == number).count()
+    let mut count = 0usize;
+    for at in 1..163u8 {
+        if changed_key(at) == number {
+            count = count.saturating_add(1);
+        }
+    }
+    count
 }
 
 #[test]
@@ -110,61 +140,6 @@ fn each_key_is_followed_where_leaves_were_split_by_keys(rt: HostRuntime) {
     for number in 1..46u8 {
         let found = in_all(&rt, rt.alloc(), number);
         assert!(rt; found == count_changes(number), "key {number}");
-    }
-}
-
-/// How many events of a key are in a window, where two nodes refer to one leaf.
-fn in_window_of_two_parents(rt: &impl Abort, alloc: Global, number: u8, first: Instant) -> usize {
-    let tree = two_parents(rt, alloc);
-    count_in_window(rt, alloc, tree.current(), number, first, MAX_INSTANT)
-}
-
-#[test]
-fn a_key_is_followed_from_a_leaf_of_two_parents(rt: HostRuntime) {
-    for (number, first, count) in [
-        (10, 0, 2),
-        (40, 0, 2),
-        (10, 199, 2),
-        (40, 200, 1),
-        (9, 0, 0),
-    ] {
-        let found = in_window_of_two_parents(&rt, rt.alloc(), number, first);
-        assert!(rt; found == count, "key {number} from {first}");
-    }
-}
-
-/// How many events a tree has.
-fn count_of(rt: &impl Abort, alloc: Global, tree: Tree) -> usize {
-    answers_of(rt, alloc, tree, 1, 0).3
-}
-
-#[test]
-fn a_split_keeps_all_events(rt: HostRuntime) {
-    let one = one_key(&rt, rt.alloc());
-    assert!(rt; count_of(&rt, rt.alloc(), one) == 65);
-    let few = few_changes_split(&rt, rt.alloc(), &[150]);
-    assert!(rt; count_of(&rt, rt.alloc(), few) == 3);
-}
-
-/// When a key is changed next, over several splits.
-fn next(rt: &impl Abort, alloc: Global, number: u8, after: Instant) -> Option<Instant> {
-    let tree = few_changes_split(rt, alloc, &[120, 140, 160, 180, 200]);
-    answers_of(rt, alloc, tree, number, after).2
-}
-
-#[test]
-fn the_next_change_is_found_over_splits(rt: HostRuntime) {
-    for (number, after, at) in [
-        (1, 0, Some(100)),
-        (1, 100, Some(200)),
-        (1, 119, Some(200)),
-        (1, 200, None),
-        (2, 99, Some(100)),
-        (2, 100, None),
-        (3, 0, None),
-    ] {
-        let found = next(&rt, rt.alloc(), number, after);
-        assert!(rt; found == at, "key {number} after {after}");
     }
 }
 
@@ -193,11 +168,9 @@ fn a_look_up_visits_one_node_of_each_level(rt: HostRuntime) {
     }
 }
 
-/// What a view answers: the instant of the last commit, the number in the row of key 2, how many
-/// events there are, and how many nodes.
-type Answers = (Instant, Option<i64>, usize, usize);
-
-fn answers(rt: &impl Abort, alloc: Global, view: &View) -> Answers {
+/// What a view says: the instant of the last commit, the number in the row of key 2, how many events
+/// there are, and how many nodes.
+fn said_by(rt: &impl Abort, alloc: Global, view: &View) -> (Instant, Option<i64>, usize, usize) {
     let number = number_in_row(rt, alloc, view, 2, MAX_INSTANT).0;
     let shape = view.shape(alloc).expect(rt, "there is memory");
     (
@@ -208,30 +181,16 @@ fn answers(rt: &impl Abort, alloc: Global, view: &View) -> Answers {
     )
 }
 
-/// A share of a view of a tree.
-fn share_of(rt: &impl Abort, tree: &Tree) -> View {
-    let view = tree.view().expect(rt, "there is memory");
-    view.share().expect(rt, "there is memory")
-}
-
-/// What a view answers after 1,000 commits, and what the tree does.
-fn kept_and_current(rt: &impl Abort, alloc: Global) -> (Answers, Answers) {
-    let mut tree = few_changes(rt, alloc);
-    let view = share_of(rt, &tree);
-    grow(rt, alloc, &mut tree);
-    (
-        answers(rt, alloc, &view),
-        answers(rt, alloc, tree.current()),
-    )
-}
-
 #[test]
 fn a_view_stays_while_the_tree_takes_commits(rt: HostRuntime) {
-    let (kept, current) = kept_and_current(&rt, rt.alloc());
+    let mut tree = few_changes(&rt, rt.alloc());
+    let view = tree.view().expect(&rt, "there is memory");
+    let view = view.share().expect(&rt, "there is memory");
+    grow(&rt, rt.alloc(), &mut tree);
+    let kept = said_by(&rt, rt.alloc(), &view);
+    let (last, number, events, nodes) = said_by(&rt, rt.alloc(), tree.current());
     assert!(rt; kept == (200, Some(6), 3, 1));
-    let (last, number, events, nodes) = current;
-    assert!(rt; last == 1200 && number == Some(9) && events == 1003);
-    assert!(rt; nodes > 20, "{nodes} nodes");
+    assert!(rt; (last, number, events) == (1200, Some(9), 1003) && nodes > 20);
 }
 
 /// Whether trees have the same view.
@@ -247,20 +206,15 @@ fn is_same_after_split(rt: &impl Abort, alloc: Global) -> bool {
     view.same(tree.current())
 }
 
-/// Whether trees of one row have the same view.
-fn is_same_row(rt: &impl Abort, alloc: Global, one: i64, other: i64) -> bool {
-    are_same(one_row(rt, alloc, one), one_row(rt, alloc, other))
-}
-
 #[test]
 fn views_are_the_same_where_their_nodes_are(rt: HostRuntime) {
-    let one = few_changes(&rt, rt.alloc());
-    assert!(rt; are_same(one, few_changes(&rt, rt.alloc())));
-    assert!(rt; !is_same_after_split(&rt, rt.alloc()));
-}
-
-#[test]
-fn views_with_other_rows_are_not_the_same(rt: HostRuntime) {
-    assert!(rt; is_same_row(&rt, rt.alloc(), 1, 1));
-    assert!(rt; !is_same_row(&rt, rt.alloc(), 1, 2));
+    let alloc = rt.alloc();
+    let few = few_changes(&rt, alloc);
+    assert!(rt; are_same(few, few_changes(&rt, alloc)), "of one history");
+    assert!(rt; !is_same_after_split(&rt, alloc), "after a split");
+    for (value, is_same) in [(1, true), (2, false)] {
+        let one = one_row(&rt, alloc, 1);
+        let found = are_same(one, one_row(&rt, alloc, value));
+        assert!(rt; found == is_same, "value {value}");
+    }
 }

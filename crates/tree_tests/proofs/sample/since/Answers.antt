@@ -1,6 +1,6 @@
 use Rattle.std.proofs.Common.{Some, refl}
 use Rattle.datanode.proofs.CutParts.{now_inside}
-use Rattle.tree_tests.proofs.datanode_tests.since.Goals as goal
+use Rattle.tree_tests.proofs.sample.since.Goals as goal
 
 pub part-requires : goal.part-requires
 part-requires g c =
