@@ -28,9 +28,10 @@ fn replies(rt: &impl Abort, alloc: Global) -> Vec<Reply> {
     System::run(alloc, schema(rt, alloc), steps).expect(rt, "there is memory")
 }
 
-fn are_as_due(replies: &[Reply]) -> bool {
-    matches!(
-        replies,
+#[test]
+fn the_service_adds_a_column_while_no_transaction_is_open(rt: HostRuntime) {
+    let are_as_due = matches!(
+        replies(&rt, rt.alloc()).as_slice(),
         [
             Reply::Begun(0),
             Reply::Inserted(1),
@@ -39,10 +40,6 @@ fn are_as_due(replies: &[Reply]) -> bool {
             Reply::Altered,
             Reply::Done,
         ]
-    )
-}
-
-#[test]
-fn the_service_adds_a_column_while_no_transaction_is_open(rt: HostRuntime) {
-    assert!(rt; are_as_due(&replies(&rt, rt.alloc())));
+    );
+    assert!(rt; are_as_due);
 }

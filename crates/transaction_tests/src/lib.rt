@@ -5,8 +5,6 @@
 #[cfg(test)]
 mod commitclock_tests;
 #[cfg(test)]
-mod engine;
-#[cfg(test)]
 mod interleaving_tests;
 #[cfg(test)]
 mod open_transaction_tests;

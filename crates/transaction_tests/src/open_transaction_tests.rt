@@ -1,17 +1,17 @@
 //! A transaction that reads what it wrote.
 
-use crate::sample::{empty_tree, one_row, schema, sets};
+use crate::sample::{ask, begin, count, empty_engine, one_row, schema, sets};
 use std::alloc::Global;
 use std::process::Abort;
-use steps::{Listing, fit_keys, fit_write};
+use steps::{fit_keys, fit_write};
 use systime_query::BlockCache;
-use transaction::{OpenTransaction, listing_of};
-use values::{Form, Keys, Mem, Write};
+use transaction::OpenTransaction;
+use tsbtree::View;
+use values::{Form, Keys, Write};
 
-/// A transaction over nothing committed.
-fn begin_empty(rt: &impl Abort, alloc: Global) -> OpenTransaction {
-    let view = empty_tree(rt, alloc).view().expect(rt, "there is memory");
-    OpenTransaction::begin(alloc, view).expect(rt, "there is memory")
+/// What a transaction sees where nothing is committed.
+fn nothing(rt: &impl Abort, alloc: Global) -> View {
+    begin(rt, &empty_engine(rt, alloc))
 }
 
 /// How many rows a write changes that fits the table of employees.
@@ -20,32 +20,19 @@ fn change(
     alloc: Global,
     transaction: &mut OpenTransaction,
     write: Write<'_>,
-) -> Mem<usize> {
+) -> usize {
     let schema = schema(rt, alloc);
     let write = fit_write(&schema, 1, write).expect(rt, "it fits");
-    transaction.write(write)
+    transaction.write(write).expect(rt, "it is written")
 }
 
 /// A transaction that has inserted an employee.
 fn with_ann(rt: &impl Abort, alloc: Global) -> OpenTransaction {
     let rows = one_row(rt, alloc, 1, "Ann");
-    let mut transaction = begin_empty(rt, alloc);
-    let inserted = change(rt, alloc, &mut transaction, Write::Insert(1, &rows));
-    assert!(rt; inserted.expect(rt, "it is inserted") == 1);
+    let begun = OpenTransaction::begin(alloc, nothing(rt, alloc));
+    let mut transaction = begun.expect(rt, "there is memory");
+    assert!(rt; change(rt, alloc, &mut transaction, Write::Insert(1, &rows)) == 1);
     transaction
-}
-
-#[test]
-fn a_transaction_begins_at_the_last_commit(rt: HostRuntime) {
-    assert!(rt; with_ann(&rt, rt.alloc()).start() == 0);
-}
-
-/// How many rows are listed.
-fn count(rt: &impl Abort, listing: Mem<Listing>) -> usize {
-    match listing.expect(rt, "there is memory") {
-        Listing::Rows(rows) => rows.items().len(),
-        Listing::Periods(shown) => shown.items().len(),
-    }
 }
 
 /// How many rows a query of a transaction shows that has inserted an employee.
@@ -54,22 +41,6 @@ fn count_shown(rt: &impl Abort, alloc: Global, form: Form) -> usize {
     let keys = Keys::all(alloc, 1);
     let keys = fit_keys(&schema, 1, &keys).expect(rt, "they fit");
     let listing = with_ann(rt, alloc).select(alloc, &mut BlockCache::new(alloc), form, keys);
-    count(rt, listing)
-}
-
-/// How many rows a query shows outside any transaction.
-fn count_outside(rt: &impl Abort, alloc: Global) -> usize {
-    let schema = schema(rt, alloc);
-    let tree = empty_tree(rt, alloc);
-    let keys = Keys::all(alloc, 1);
-    let keys = fit_keys(&schema, 1, &keys).expect(rt, "they fit");
-    let listing = listing_of(
-        alloc,
-        &mut BlockCache::new(alloc),
-        tree.current(),
-        Form::Plain,
-        keys,
-    );
     count(rt, listing)
 }
 
@@ -82,10 +53,12 @@ const FORMS: &[(Form, usize)] = &[
 
 #[test]
 fn a_transaction_reads_its_own_writes_in_a_plain_query_alone(rt: HostRuntime) {
+    let alloc = rt.alloc();
     for (form, shown) in FORMS {
-        assert!(rt; count_shown(&rt, rt.alloc(), *form) == *shown, "{form:?}");
+        assert!(rt; count_shown(&rt, alloc, *form) == *shown, "{form:?}");
     }
-    assert!(rt; count_outside(&rt, rt.alloc()) == 0);
+    let outside = nothing(&rt, alloc);
+    assert!(rt; ask(&rt, alloc, &outside, Form::Plain, &Keys::all(alloc, 1)) == (0, 0));
 }
 
 /// How many changes a transaction has, and as many in a copy. The bytes of a key begin with its
@@ -100,29 +73,18 @@ fn count_changes(rt: &impl Abort, alloc: Global, transaction: &OpenTransaction) 
     net.changes().len()
 }
 
-/// How many rows an update of all rows meets.
-fn update_all(rt: &impl Abort, alloc: Global, transaction: &mut OpenTransaction) -> usize {
-    let sets = sets(rt, alloc, "Bea");
-    let all = Keys::all(alloc, 1);
-    let met = change(rt, alloc, transaction, Write::Update(&all, &sets));
-    met.expect(rt, "the name is set")
-}
-
-/// How many rows a deletion of all rows meets.
-fn delete_all(rt: &impl Abort, alloc: Global, transaction: &mut OpenTransaction) -> usize {
-    let all = Keys::all(alloc, 1);
-    let met = change(rt, alloc, transaction, Write::Delete(&all));
-    met.expect(rt, "they are deleted")
-}
-
 /// How many rows an update or a deletion of all rows meets, and how many changes it leaves.
 fn change_all(rt: &impl Abort, alloc: Global, is_deletion: bool) -> (usize, usize) {
     let mut transaction = with_ann(rt, alloc);
-    let met = if is_deletion {
-        delete_all(rt, alloc, &mut transaction)
+    assert!(rt; transaction.start() == 0);
+    let all = Keys::all(alloc, 1);
+    let sets = sets(rt, alloc, "Bea");
+    let write = if is_deletion {
+        Write::Delete(&all)
     } else {
-        update_all(rt, alloc, &mut transaction)
+        Write::Update(&all, &sets)
     };
+    let met = change(rt, alloc, &mut transaction, write);
     (met, count_changes(rt, alloc, &transaction))
 }
 

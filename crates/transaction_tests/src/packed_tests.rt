@@ -1,21 +1,19 @@
 //! Nodes of history are found, packed and installed.
 
-use crate::engine::{begin, empty_engine, instant_of, is_split};
-use crate::sample::{by, schema};
+use crate::sample::{ask, begin, by, commit, empty_engine, one_row, schema};
 use std::alloc::Global;
 use std::process::Abort;
-use steps::{Listing, fit_keys};
-use systime_query::BlockCache;
-use transaction::listing_of;
 use tsbtree::View;
-use validation::{Engine, Job, PackedNode, find_job, pack_job};
-use values::{Form, Instant, Keys, Mem, Operator};
+use validation::{Cut, Engine, Job, PackedNode, find_job, pack_job};
+use values::{Form, Instant, KeyBytes, Keys, Write};
 
 /// Commits the insertion of an employee at an instant, and splits the one current node there.
 fn commit_and_split(rt: &impl Abort, alloc: Global, engine: &mut Engine, number: i64, at: Instant) {
-    let view = begin(rt, engine);
-    assert!(rt; instant_of(rt, alloc, engine, &view, number, at) == Some(at));
-    assert!(rt; is_split(rt, alloc, engine, at));
+    let rows = one_row(rt, alloc, number, "Ann");
+    let schema = schema(rt, alloc);
+    commit(rt, alloc, &schema, engine, Write::Insert(1, &rows), at);
+    let cut = Cut::Time(KeyBytes::least(alloc), at);
+    assert!(rt; engine.split(&cut).expect(rt, "there is memory"));
 }
 
 /// Two nodes of history: one from 1 to 100 without events, and one from 100 to 200 with the first
@@ -27,151 +25,89 @@ fn with_history(rt: &impl Abort, alloc: Global) -> Engine {
     engine
 }
 
-/// A job that must be found.
-fn expect_job(rt: &impl Abort, job: Mem<Option<Job>>) -> Job {
-    let job = job.expect(rt, "there is memory");
-    job.expect(rt, "a node is unpacked")
+/// The node that is to be packed after that of a job, or the first one.
+fn job_after(rt: &impl Abort, view: &View, job: Option<&Job>) -> Option<Job> {
+    find_job(view, job.map(Job::rect)).expect(rt, "there is memory")
+}
+
+/// The start of the node after that of a job, and whether there is one more.
+fn start_after(rt: &impl Abort, view: &View, job: &Job) -> (Instant, bool) {
+    let next = job_after(rt, view, Some(job)).expect(rt, "another node is unpacked");
+    let is_more = job_after(rt, view, Some(&next)).is_some();
+    (next.rect().time().from, is_more)
+}
+
+#[test]
+fn jobs_are_found_in_turn(rt: HostRuntime) {
+    let view = begin(&rt, &with_history(&rt, rt.alloc()));
+    let first = job_after(&rt, &view, None).expect(&rt, "a node is unpacked");
+    assert!(rt; first.rect().time().from == 1);
+    assert!(rt; start_after(&rt, &view, &first) == (100, false));
 }
 
 /// The first node that is to be packed, packed.
 fn pack_first(rt: &impl Abort, alloc: Global, engine: &Engine) -> PackedNode {
-    let job = expect_job(rt, find_job(&begin(rt, engine), None));
+    let job = job_after(rt, &begin(rt, engine), None);
+    let job = job.expect(rt, "a node is unpacked");
     pack_job(alloc, job).expect(rt, "there is memory")
 }
 
-/// Whether it is a node from an instant with so many events, as its block is.
-fn is_of(packed: &PackedNode, from: Instant, events: usize) -> bool {
-    packed.rect().time().from == from
-        && packed.node().len() == events
-        && packed.block().len() == events
-}
-
-fn install(rt: &impl Abort, engine: &mut Engine, packed: PackedNode) -> bool {
-    engine.install(packed).expect(rt, "there is memory")
-}
-
-/// Packs a node from an instant with so many events: whether it is installed, and then a copy of
-/// it.
+/// Packs a node from an instant with so many events, as its block has: it is installed, and then a
+/// copy of it is not.
 fn install_twice(
     rt: &impl Abort,
     alloc: Global,
     engine: &mut Engine,
     from: Instant,
     events: usize,
-) -> (bool, bool) {
+) {
     let packed = pack_first(rt, alloc, engine);
-    assert!(rt; is_of(&packed, from, events));
+    assert!(rt; packed.rect().time().from == from);
+    assert!(rt; packed.node().len() == events && packed.block().len() == events);
     let copy = packed.copy().expect(rt, "there is memory");
-    (install(rt, engine, packed), install(rt, engine, copy))
-}
-
-/// Whether a node of history is unpacked.
-fn is_unpacked(rt: &impl Abort, engine: &Engine) -> bool {
-    let left = find_job(&begin(rt, engine), None);
-    left.expect(rt, "there is memory").is_some()
-}
-
-/// Whether a node of history is left when both are packed, each of which is installed once.
-fn is_left(rt: &impl Abort, alloc: Global) -> bool {
-    let mut engine = with_history(rt, alloc);
-    assert!(rt; install_twice(rt, alloc, &mut engine, 1, 0) == (true, false));
-    assert!(rt; install_twice(rt, alloc, &mut engine, 100, 1) == (true, false));
-    is_unpacked(rt, &engine)
-}
-
-#[test]
-fn each_node_of_history_is_installed_once(rt: HostRuntime) {
-    assert!(rt; !is_left(&rt, rt.alloc()));
-}
-
-/// The node that is to be packed after that of a job.
-fn job_after(rt: &impl Abort, view: &View, job: &Job) -> Option<Job> {
-    let found = find_job(view, Some(job.rect()));
-    found.expect(rt, "there is memory")
-}
-
-fn start(job: &Job) -> Instant {
-    job.rect().time().from
-}
-
-/// The starts of the first node that is to be packed and of the one after it, and whether there is
-/// one more.
-fn starts(rt: &impl Abort, alloc: Global) -> (Instant, Instant, bool) {
-    let view = begin(rt, &with_history(rt, alloc));
-    let first = expect_job(rt, find_job(&view, None));
-    let second = job_after(rt, &view, &first).expect(rt, "another node is unpacked");
-    let is_more = job_after(rt, &view, &second).is_some();
-    (start(&first), start(&second), is_more)
-}
-
-#[test]
-fn jobs_are_found_in_turn(rt: HostRuntime) {
-    assert!(rt; starts(&rt, rt.alloc()) == (1, 100, false));
+    assert!(rt; engine.install(packed).expect(rt, "there is memory"));
+    assert!(rt; !engine.install(copy).expect(rt, "there is memory"));
 }
 
 /// Two nodes of history, both packed.
 fn with_packed_history(rt: &impl Abort, alloc: Global) -> Engine {
     let mut engine = with_history(rt, alloc);
-    for _ in 0..2 {
-        let packed = pack_first(rt, alloc, &engine);
-        assert!(rt; install(rt, &mut engine, packed));
-    }
+    install_twice(rt, alloc, &mut engine, 1, 0);
+    install_twice(rt, alloc, &mut engine, 100, 1);
     engine
 }
 
-/// How many blocks the cache keeps that was handed to a query.
-fn count_kept(rt: &impl Abort, alloc: Global, form: Form) -> usize {
-    let engine = with_packed_history(rt, alloc);
-    let schema = schema(rt, alloc);
-    let keys = Keys::all(alloc, 1);
-    let keys = fit_keys(&schema, 1, &keys).expect(rt, "they fit");
-    let mut cache = BlockCache::new(alloc);
-    let listing = listing_of(alloc, &mut cache, engine.tree().current(), form, keys);
-    assert!(rt; listing.is_ok());
-    cache.len()
-}
-
 #[test]
-fn a_query_of_packed_history_asks_the_cache(rt: HostRuntime) {
-    let kept = [
-        (Form::AsOf(150), 1),
-        (Form::Between(1, 200), 2),
-        (Form::AsOf(200), 0),
-        (Form::Plain, 0),
-    ];
-    for (form, blocks) in kept {
-        assert!(rt; count_kept(&rt, rt.alloc(), form) == blocks, "{form:?}");
-    }
+fn each_node_of_history_is_installed_once(rt: HostRuntime) {
+    let engine = with_packed_history(&rt, rt.alloc());
+    assert!(rt; job_after(&rt, engine.tree().current(), None).is_none());
 }
 
-/// How many rows an employee is shown with as of an instant, and how many blocks the cache keeps
-/// then that was handed to the query.
-fn count_of_one(rt: &impl Abort, alloc: Global, number: i64, at: Instant) -> (usize, usize) {
-    let engine = with_packed_history(rt, alloc);
-    let schema = schema(rt, alloc);
-    let keys = by(rt, alloc, Operator::Equal, number);
-    let keys = fit_keys(&schema, 1, &keys).expect(rt, "they fit");
-    let mut cache = BlockCache::new(alloc);
-    let view = engine.tree().current();
-    let listing = listing_of(alloc, &mut cache, view, Form::AsOf(at), keys);
-    let shown = match listing.expect(rt, "there is memory") {
-        Listing::Rows(rows) => rows.items().len(),
-        Listing::Periods(shown) => shown.items().len(),
-    };
-    (shown, cache.len())
-}
+/// Queries of all employees, or of one: how many rows are shown, and how many blocks the cache keeps
+/// then.
+const QUERIES: &[(Option<i64>, Form, usize, usize)] = &[
+    (None, Form::AsOf(150), 1, 1),
+    (None, Form::Between(1, 200), 2, 2),
+    (None, Form::AsOf(200), 2, 0),
+    (None, Form::Plain, 2, 0),
+    (Some(1), Form::AsOf(99), 0, 0),
+    (Some(1), Form::AsOf(100), 1, 0),
+    (Some(1), Form::AsOf(199), 1, 0),
+    (Some(1), Form::AsOf(200), 1, 0),
+    (Some(2), Form::AsOf(199), 0, 0),
+    (Some(2), Form::AsOf(200), 1, 0),
+];
 
 #[test]
 fn one_key_of_packed_history_is_looked_up_without_the_cache(rt: HostRuntime) {
-    for (number, at, shown) in &[
-        (1, 99, 0),
-        (1, 100, 1),
-        (1, 199, 1),
-        (1, 200, 1),
-        (2, 199, 0),
-        (2, 200, 1),
-    ] {
-        let counts = count_of_one(&rt, rt.alloc(), *number, *at);
-        assert!(rt; counts == (*shown, 0), "{number} at {at}");
+    let alloc = rt.alloc();
+    let engine = with_packed_history(&rt, alloc);
+    for (number, form, shown, blocks) in QUERIES {
+        let keys = match number {
+            Some(number) => by(&rt, alloc, 1, *number),
+            None => Keys::all(alloc, 1),
+        };
+        let found = ask(&rt, alloc, engine.tree().current(), *form, &keys);
+        assert!(rt; found == (*shown, *blocks), "{number:?} {form:?}");
     }
 }

@@ -1,51 +1,38 @@
-//! Employees, and trees in which they were committed. The run ends where memory does.
+//! Employees, and transactions that write and show them. The run ends where memory does.
 
-use staging::{KeyedNet, Staged};
+use staging::Staged;
 use std::alloc::Global;
 use std::process::Abort;
-use steps::fit_write;
-use tsbtree::{Tree, View};
-use values::{Chars, Comparison, Instant, Keys, Mem, Operator, Row, Schema, Set, Value, Write};
+use steps::{Listing, fit_keys, fit_write};
+use systime_query::BlockCache;
+use transaction::listing_of;
+use tsbtree::View;
+use validation::Engine;
+use values::{
+    Chars, Comparison, Form, Instant, Keys, Mem, Operator, Row, Schema, Set, Value, Write,
+};
 
 /// The table of employees, alone.
 pub(crate) fn schema(rt: &impl Abort, alloc: Global) -> Schema {
     Schema::sample(alloc).expect(rt, "there is memory")
 }
 
-/// What a transaction answers to a write, if it fits the table of employees.
-pub(crate) fn write(
-    rt: &impl Abort,
-    alloc: Global,
-    staged: &mut Staged,
-    view: &View,
-    write: Write<'_>,
-) -> Mem<usize> {
-    let schema = schema(rt, alloc);
-    match fit_write(&schema, 1, write) {
-        Ok(write) => staged.write(view, write),
-        Err(refusal) => Err(refusal),
-    }
-}
-
 fn text(rt: &impl Abort, alloc: Global, name: &str) -> Value {
     Value::Text(Chars::copy_of(alloc, name).expect(rt, "the name is short"))
 }
 
-fn employee(rt: &impl Abort, alloc: Global, number: i64, name: &str) -> Row {
-    let values = vec![in alloc; Value::Int(number), text(rt, alloc, name)];
-    Row::new(values.expect(rt, "there is memory")).expect(rt, "two values are few")
-}
-
 pub(crate) fn one_row(rt: &impl Abort, alloc: Global, number: i64, name: &str) -> Vec<Row> {
-    let rows = vec![in alloc; employee(rt, alloc, number, name)];
+    let values = vec![in alloc; Value::Int(number), text(rt, alloc, name)];
+    let row = Row::new(values.expect(rt, "there is memory"));
+    let rows = vec![in alloc; row.expect(rt, "two values are few")];
     rows.expect(rt, "there is memory")
 }
 
-/// The keys that compare so with a number.
-pub(crate) fn by(rt: &impl Abort, alloc: Global, operator: Operator, number: i64) -> Keys {
+/// The keys whose column has this number.
+pub(crate) fn by(rt: &impl Abort, alloc: Global, column: usize, number: i64) -> Keys {
     let comparison = Comparison {
-        column: 1,
-        operator,
+        column,
+        operator: Operator::Equal,
         value: Value::Int(number),
     };
     Keys::of_comparison(alloc, 1, comparison).expect(rt, "there is memory")
@@ -60,46 +47,65 @@ pub(crate) fn sets(rt: &impl Abort, alloc: Global, name: &str) -> Vec<Set> {
     vec![in alloc; set].expect(rt, "there is memory")
 }
 
-/// A transaction that has written nothing.
-pub(crate) fn nothing_staged(rt: &impl Abort, alloc: Global) -> Staged {
-    Staged::new(alloc).expect(rt, "there is memory")
+pub(crate) fn empty_engine(rt: &impl Abort, alloc: Global) -> Engine {
+    Engine::new(alloc).expect(rt, "there is memory")
 }
 
-/// The net change of a transaction that inserts an employee.
-pub(crate) fn insertion(
+pub(crate) fn begin(rt: &impl Abort, engine: &Engine) -> View {
+    engine.begin().expect(rt, "there is memory")
+}
+
+/// Ends a transaction over a view with one write, which meets one row.
+pub(crate) fn end(
+    rt: &impl Abort,
+    alloc: Global,
+    schema: &Schema,
+    engine: &mut Engine,
+    view: &View,
+    write: Write<'_>,
+    reading: Instant,
+) -> Mem<Option<Instant>> {
+    let write = fit_write(schema, 1, write).expect(rt, "it fits");
+    let mut staged = Staged::new(alloc).expect(rt, "there is memory");
+    assert!(rt; staged.write(view, write).expect(rt, "it is written") == 1);
+    let net = staged.net(view).expect(rt, "there is memory");
+    engine.commit(schema, view.last(), net, reading)
+}
+
+/// Commits a write in a transaction of its own, at an instant.
+pub(crate) fn commit(
+    rt: &impl Abort,
+    alloc: Global,
+    schema: &Schema,
+    engine: &mut Engine,
+    write: Write<'_>,
+    at: Instant,
+) {
+    let view = begin(rt, engine);
+    let done = end(rt, alloc, schema, engine, &view, write, at);
+    assert!(rt; done.expect(rt, "it is committed") == Some(at));
+}
+
+/// How many rows a listing has.
+pub(crate) fn count(rt: &impl Abort, listing: Mem<Listing>) -> usize {
+    match listing.expect(rt, "there is memory") {
+        Listing::Rows(rows) => rows.items().len(),
+        Listing::Periods(shown) => shown.items().len(),
+    }
+}
+
+/// How many rows a query shows outside any transaction, and how many blocks the cache keeps then that
+/// was handed to it.
+pub(crate) fn ask(
     rt: &impl Abort,
     alloc: Global,
     view: &View,
-    number: i64,
-    name: &str,
-) -> KeyedNet {
-    let rows = one_row(rt, alloc, number, name);
-    let mut staged = nothing_staged(rt, alloc);
-    let inserted = write(rt, alloc, &mut staged, view, Write::Insert(1, &rows));
-    assert!(rt; inserted.expect(rt, "it is inserted") == 1);
-    staged.net(view).expect(rt, "there is memory")
-}
-
-/// Puts net changes into a tree, at an instant after its last.
-pub(crate) fn commit(rt: &impl Abort, alloc: Global, tree: &mut Tree, at: Instant, net: KeyedNet) {
-    assert!(rt; tree.current().last() < at && at <= 1000);
-    let events = net.into_events(at).expect(rt, "there is memory");
-    tree.apply(at, events).expect(rt, "there is memory");
-}
-
-/// Inserts an employee in a transaction of its own, and commits it.
-fn hire(rt: &impl Abort, alloc: Global, tree: &mut Tree, at: Instant, number: i64, name: &str) {
-    let net = insertion(rt, alloc, tree.current(), number, name);
-    commit(rt, alloc, tree, at, net);
-}
-
-pub(crate) fn empty_tree(rt: &impl Abort, alloc: Global) -> Tree {
-    Tree::new(alloc).expect(rt, "there is memory")
-}
-
-/// One employee, Ann with the number 1 from 100 on.
-pub(crate) fn ann(rt: &impl Abort, alloc: Global) -> Tree {
-    let mut tree = empty_tree(rt, alloc);
-    hire(rt, alloc, &mut tree, 100, 1, "Ann");
-    tree
+    form: Form,
+    keys: &Keys,
+) -> (usize, usize) {
+    let schema = schema(rt, alloc);
+    let keys = fit_keys(&schema, 1, keys).expect(rt, "they fit");
+    let mut cache = BlockCache::new(alloc);
+    let shown = count(rt, listing_of(alloc, &mut cache, view, form, keys));
+    (shown, cache.len())
 }

@@ -1,67 +1,62 @@
 //! One employee after the last instant that a line can name.
 
-use crate::sample::{ann, by, commit, nothing_staged, schema, sets, write};
+use crate::sample::{by, commit, empty_engine, one_row, schema, sets};
 use searchrange::Search;
-use staging::KeyedNet;
 use std::alloc::Global;
 use std::process::Abort;
 use steps::fit_keys;
 use systime_query::{BlockCache, rows_at};
-use tsbtree::{Tree, View};
-use values::{Instant, Keys, MAX_INSTANT, Operator, Schema, ShownRow, Value, Write};
+use tsbtree::View;
+use validation::Engine;
+use values::{Instant, MAX_INSTANT, Schema, ShownRow, Value, Write};
 
-/// The net change of a transaction that calls the employee with the number 1 Bea.
-fn renaming(rt: &impl Abort, alloc: Global, view: &View) -> KeyedNet {
-    let one = by(rt, alloc, Operator::Equal, 1);
+/// Calls the employee with the number 1 Bea, from 200 on.
+fn rename(rt: &impl Abort, alloc: Global, schema: &Schema, engine: &mut Engine) {
+    let one = by(rt, alloc, 1, 1);
     let sets = sets(rt, alloc, "Bea");
-    let mut staged = nothing_staged(rt, alloc);
-    let renamed = write(rt, alloc, &mut staged, view, Write::Update(&one, &sets));
-    assert!(rt; renamed.expect(rt, "it is renamed") == 1);
-    staged.net(view).expect(rt, "there is memory")
+    let write = Write::Update(&one, &sets);
+    commit(rt, alloc, schema, engine, write, 200);
 }
 
 /// Ann comes at 100 as number 1, and is Bea from 200 on.
-fn ann_then_bea(rt: &impl Abort, alloc: Global) -> Tree {
-    let mut tree = ann(rt, alloc);
-    let net = renaming(rt, alloc, tree.current());
-    commit(rt, alloc, &mut tree, 200, net);
-    tree
+fn ann_then_bea(rt: &impl Abort, alloc: Global) -> Engine {
+    let schema = schema(rt, alloc);
+    let mut engine = empty_engine(rt, alloc);
+    let rows = one_row(rt, alloc, 1, "Ann");
+    let write = Write::Insert(1, &rows);
+    commit(rt, alloc, &schema, &mut engine, write, 100);
+    rename(rt, alloc, &schema, &mut engine);
+    engine
 }
 
-/// A search for keys that fit their table.
-fn search<'a>(rt: &impl Abort, alloc: Global, schema: &'a Schema, keys: &'a Keys) -> Search<'a> {
-    let keys = fit_keys(schema, 1, keys).expect(rt, "they fit");
-    Search::new(alloc, keys).expect(rt, "there is memory")
+/// The rows of the employee with a number at an instant.
+fn rows_of(rt: &impl Abort, alloc: Global, view: &View, number: i64, at: Instant) -> Vec<ShownRow> {
+    let schema = schema(rt, alloc);
+    let keys = by(rt, alloc, 1, number);
+    let keys = fit_keys(&schema, 1, &keys).expect(rt, "they fit");
+    let search = Search::new(alloc, keys).expect(rt, "there is memory");
+    let mut cache = BlockCache::new(alloc);
+    rows_at(alloc, &mut cache, view, at, &search).expect(rt, "there is memory")
 }
 
-/// The name of the one employee of these rows; none where there is none, or more than one.
-fn name_in(rows: &[ShownRow]) -> Option<&str> {
+/// Whether there is one row, of an employee called Bea.
+fn is_bea(rows: &[ShownRow]) -> bool {
     match rows {
         [row] => match row.values() {
-            [_number, Value::Text(name)] => Some(name.text()),
-            _ => None,
+            [_number, Value::Text(name)] => name.text() == "Bea",
+            _ => false,
         },
-        _ => None,
+        _ => false,
     }
-}
-
-/// Whether the employee with the number 1 has a name at an instant, and the one with 2 none then.
-fn is_called(rt: &impl Abort, alloc: Global, at: Instant, called: Option<&str>) -> bool {
-    let tree = ann_then_bea(rt, alloc);
-    let schema = schema(rt, alloc);
-    let mut cache = BlockCache::new(alloc);
-    let one = by(rt, alloc, Operator::Equal, 1);
-    let one = search(rt, alloc, &schema, &one);
-    let one = rows_at(alloc, &mut cache, tree.current(), at, &one).expect(rt, "there is memory");
-    let two = by(rt, alloc, Operator::Equal, 2);
-    let two = search(rt, alloc, &schema, &two);
-    let two = rows_at(alloc, &mut cache, tree.current(), at, &two).expect(rt, "there is memory");
-    name_in(&one) == called && one.len() == called.is_some() as usize && two.is_empty()
 }
 
 #[test]
 fn one_employee_is_looked_up_at_an_instant(rt: HostRuntime) {
-    for at in [MAX_INSTANT, u64::MAX] {
-        assert!(rt; is_called(&rt, rt.alloc(), at, Some("Bea")), "at {at}");
+    let alloc = rt.alloc();
+    let engine = ann_then_bea(&rt, alloc);
+    for at in &[MAX_INSTANT, u64::MAX] {
+        let view = engine.tree().current();
+        assert!(rt; is_bea(&rows_of(&rt, alloc, view, 1, *at)), "at {at}");
+        assert!(rt; rows_of(&rt, alloc, view, 2, *at).is_empty(), "at {at}");
     }
 }
