@@ -15,11 +15,6 @@ const SCRIPT: &str = "64: BEGIN\n\
     64: INSERT INTO emp VALUES (1, 'Ann')\n\
     64: COMMIT";
 
-fn empty_store(rt: &impl Abort, alloc: Global) -> System {
-    let schema = Schema::sample(alloc).expect(rt, "there is memory");
-    System::new(alloc, schema).expect(rt, "there is memory")
-}
-
 /// The replies to a line after a replay, or why the script was not replayed.
 fn told_after<I: Read>(
     rt: &impl Abort,
@@ -27,7 +22,9 @@ fn told_after<I: Read>(
     reader: &mut I,
     line: &str,
 ) -> Result<Vec<u8>, ReplayFault> {
-    match replay_script(alloc, empty_store(rt, alloc), reader) {
+    let schema = Schema::sample(alloc).expect(rt, "there is memory");
+    let empty = System::new(alloc, schema).expect(rt, "there is memory");
+    match replay_script(alloc, empty, reader) {
         Ok(system) => {
             let mut out = Vec::new(alloc);
             let ran = run_script_in(alloc, system, &mut line.as_bytes(), &mut out);
@@ -38,23 +35,23 @@ fn told_after<I: Read>(
     }
 }
 
-/// Whether a script in pieces of so many bytes is replayed, and its row is there then.
-fn is_replayed(rt: &impl Abort, alloc: Global, most: usize) -> bool {
-    let mut reader = Cut {
-        rest: SCRIPT.as_bytes(),
-        most,
-        calls: 1000,
-    };
-    match told_after(rt, alloc, &mut reader, "1: BEGIN\n1: SELECT * FROM emp") {
-        Ok(out) => out.as_slice() == b"begun 7\nrows 1\n(1, 'Ann')\n".as_slice(),
-        Err(_) => false,
-    }
-}
-
 #[test]
 fn a_script_is_replayed_however_it_is_read(rt: HostRuntime) {
-    for most in [1usize, 2, 7, 4096] {
-        assert!(rt; is_replayed(&rt, rt.alloc(), most), "{most}");
+    for most in &[1, 2, 7, 4096] {
+        let mut reader = Cut {
+            rest: SCRIPT.as_bytes(),
+            most: *most,
+            calls: 1000,
+        };
+        let told = told_after(
+            &rt,
+            rt.alloc(),
+            &mut reader,
+            "1: BEGIN\n1: SELECT * FROM emp",
+        );
+        let out = told.expect(&rt, "it is replayed");
+        let wanted = b"begun 7\nrows 1\n(1, 'Ann')\n".as_slice();
+        assert!(rt; out.as_slice() == wanted, "{most}");
     }
 }
 
@@ -72,23 +69,31 @@ fn fault_of(rt: &impl Abort, alloc: Global, script: &str, calls: usize) -> Optio
 fn a_reader_that_fails_ends_a_replay(rt: HostRuntime) {
     for calls in 0..13usize {
         let fault = fault_of(&rt, rt.alloc(), SCRIPT, calls);
-        assert!(rt; fault == Some(ReplayFault::Read), "{calls}");
+        assert!(rt; matches!(fault, Some(ReplayFault::Read)), "{calls}");
     }
 }
 
 #[test]
 fn the_first_refused_line_ends_a_replay(rt: HostRuntime) {
-    let alloc = rt.alloc();
-    let fault = fault_of(&rt, alloc, "1: BEGIN\n\n1: BEGIN\n2: COMMIT\n", 1000);
-    assert!(rt; fault == Some(ReplayFault::Refused(3, Refusal::InTransaction)));
-    let fault = fault_of(&rt, alloc, "1: BEGIN\n2: COMMIT", 1000);
-    assert!(rt; fault == Some(ReplayFault::Refused(2, Refusal::NoTransaction)));
-    let fault = fault_of(&rt, alloc, "1: BEGIN\n2: COMMIT\n", 2);
-    assert!(rt; fault == Some(ReplayFault::Read));
+    let third = "1: BEGIN\n\n1: BEGIN\n2: COMMIT\n";
+    assert!(rt;
+        matches!(
+            fault_of(&rt, rt.alloc(), third, 1000),
+            Some(ReplayFault::Refused(3, Refusal::InTransaction))
+        )
+    );
+    assert!(rt;
+        matches!(
+            fault_of(&rt, rt.alloc(), "1: BEGIN\n2: COMMIT", 1000),
+            Some(ReplayFault::Refused(2, Refusal::NoTransaction))
+        )
+    );
+    let fault = fault_of(&rt, rt.alloc(), "1: BEGIN\n2: COMMIT\n", 2);
+    assert!(rt; matches!(fault, Some(ReplayFault::Read)));
 }
 
 #[test]
 fn an_open_transaction_ends_a_replay(rt: HostRuntime) {
     let fault = fault_of(&rt, rt.alloc(), "1: BEGIN\n1: ROLLBACK\n2: BEGIN", 1000);
-    assert!(rt; fault == Some(ReplayFault::Open));
+    assert!(rt; matches!(fault, Some(ReplayFault::Open)));
 }

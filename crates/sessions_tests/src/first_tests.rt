@@ -19,20 +19,15 @@ fn one_row(rt: &impl Abort, alloc: Global) -> Vec<Step> {
     steps.expect(rt, "there is memory")
 }
 
-/// The output of a script after these steps.
-fn output_after(rt: &impl Abort, alloc: Global, first: Vec<Step>, script: &str) -> Vec<u8> {
-    let mut out = Vec::new(alloc);
-    let schema = Schema::sample(alloc).expect(rt, "there is memory");
-    let ran = run_script_after(alloc, first, &mut script.as_bytes(), &mut out, schema);
-    assert!(rt; ran.is_ok());
-    out
-}
-
 #[test]
 fn first_steps_are_seen_by_the_script_and_not_answered(rt: HostRuntime) {
     let alloc = rt.alloc();
     let steps = one_row(&rt, alloc);
-    let out = output_after(&rt, alloc, steps, "1: SELECT * FROM emp\n1: BEGIN\n");
+    let mut script = b"1: SELECT * FROM emp\n1: BEGIN\n".as_slice();
+    let mut out = Vec::new(alloc);
+    let schema = Schema::sample(alloc).expect(&rt, "there is memory");
+    let ran = run_script_after(alloc, steps, &mut script, &mut out, schema);
+    assert!(rt; ran.is_ok());
     assert!(rt; out.as_slice() == b"rows 1\n(1, null)\nbegun 1\n".as_slice());
 }
 
@@ -54,8 +49,8 @@ fn fault_after(rt: &impl Abort, alloc: Global, first: [Step; 3]) -> Option<RunFa
 fn the_first_refusal_ends_the_run_before_the_script(rt: HostRuntime) {
     let steps = [Step::Begin(0), Step::Begin(65), Step::Commit(1, 0)];
     let fault = fault_after(&rt, rt.alloc(), steps);
-    assert!(rt; fault == Some(RunFault::First(Refusal::NoSession)));
+    assert!(rt; matches!(fault, Some(RunFault::First(Refusal::NoSession))));
     let steps = [Step::Begin(0), Step::Commit(0, 7), Step::Commit(0, 7)];
     let fault = fault_after(&rt, rt.alloc(), steps);
-    assert!(rt; fault == Some(RunFault::First(Refusal::NoTransaction)));
+    assert!(rt; matches!(fault, Some(RunFault::First(Refusal::NoTransaction))));
 }

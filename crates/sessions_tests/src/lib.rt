@@ -32,9 +32,9 @@ mod line_tests;
 #[cfg(test)]
 mod load_from_tests;
 #[cfg(test)]
-mod load_rows_tests;
-#[cfg(test)]
 mod log_tests;
+#[cfg(test)]
+mod pipe;
 #[cfg(test)]
 mod program_tests;
 #[cfg(test)]

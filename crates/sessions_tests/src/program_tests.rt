@@ -1,13 +1,8 @@
 //! The program over readers and writers that give and take few bytes, and that fail, and words that no command line has.
 use crate::cut::Cut;
-use crate::stream_tests::Closing;
+use crate::pipe::Pipe;
 use command_line::fault::{FAULT, WORDS};
 use command_line::program::{DONE, program};
-use std::net::{Net, TcpListener, TcpStream};
-use std::rt::Files;
-use std::sync::Wait;
-use std::thread::Threads;
-use std::time::Clock;
 
 const NO_WORDS: [&str; 0] = [];
 
@@ -54,85 +49,59 @@ fn refused_words_read_and_write_nothing(rt: HostRuntime) {
 
 #[test]
 fn a_name_with_a_zero_byte_is_a_read_fault(rt: HostRuntime) {
-    for option in ["--schema", "--script"] {
+    for option in &["--schema", "--script"] {
         let mut out = Vec::new(rt.alloc());
         let mut err = Vec::new(rt.alloc());
         let mut reader = b"1: BEGIN\n".as_slice();
-        let status = program(&rt, &[option, "a\0b"], &mut reader, &mut out, &mut err);
+        let status = program(&rt, &[*option, "a\0b"], &mut reader, &mut out, &mut err);
         assert!(rt; status == FAULT && out.is_empty(), "{option}");
         assert!(rt; err.as_slice() == b"read fault\n".as_slice(), "{option}");
     }
 }
 
-/// Whether a run's status and what it reported fit: nothing where all was done, and else this fault.
-fn is_reported(status: u8, told: &[u8], fault: &str) -> bool {
-    match status {
-        DONE => told.is_empty(),
-        FAULT => told == fault.as_bytes(),
-        _ => false,
-    }
-}
-
-/// Whether a script's output is its replies where all was done, and else a prefix of them.
-fn is_prefix(status: u8, out: &[u8]) -> bool {
-    REPLIES.as_bytes().starts_with(out) && (status == FAULT || out.len() == REPLIES.len())
-}
-
-/// Whether a run whose reader fails at a call reports a read fault after a prefix of the replies.
-fn reader_fails<R>(rt: &R, calls: usize) -> bool
-where
-    R: AllocGlobal
-        + Files
-        + Net<Listener = TcpListener, Stream = TcpStream>
-        + Clock
-        + Threads
-        + Wait
-        + Sync,
-{
-    let mut reader = Cut {
-        rest: SCRIPT.as_bytes(),
-        most: 7,
-        calls,
-    };
-    let mut out = Vec::new(rt.alloc());
-    let mut err = Vec::new(rt.alloc());
-    let status = program(rt, &NO_WORDS, &mut reader, &mut out, &mut err);
-    is_reported(status, err.as_slice(), "read fault\n") && is_prefix(status, out.as_slice())
+/// Whether a run was done, reported nothing and wrote all replies, or reported this fault after a
+/// prefix of them.
+fn fits(status: u8, told: &[u8], out: &[u8], fault: &str) -> bool {
+    let is_done = status == DONE && told.is_empty() && out == REPLIES.as_bytes();
+    let is_faulty = status == FAULT && told == fault.as_bytes();
+    is_done || is_faulty && REPLIES.as_bytes().starts_with(out)
 }
 
 #[test]
 fn a_reader_that_fails_is_reported_as_a_read_fault(rt: HostRuntime) {
     for calls in 0..100usize {
-        assert!(rt; reader_fails(&rt, calls), "{calls}");
+        let mut reader = Cut {
+            rest: SCRIPT.as_bytes(),
+            most: 7,
+            calls,
+        };
+        let mut out = Vec::new(rt.alloc());
+        let mut err = Vec::new(rt.alloc());
+        let status = program(&rt, &NO_WORDS, &mut reader, &mut out, &mut err);
+        let told = err.as_slice();
+        assert!(rt;
+            fits(status, told, out.as_slice(), "read fault\n"),
+            "{calls}"
+        );
     }
-}
-
-/// Whether a run whose writer fails at a call reports a write fault after a prefix of the replies.
-fn writer_fails<R>(rt: &R, calls: usize) -> bool
-where
-    R: AllocGlobal
-        + Files
-        + Net<Listener = TcpListener, Stream = TcpStream>
-        + Clock
-        + Threads
-        + Wait
-        + Sync,
-{
-    let mut out = Closing {
-        taken: Vec::new(rt.alloc()),
-        calls,
-    };
-    let mut err = Vec::new(rt.alloc());
-    let status = program(rt, &NO_WORDS, &mut SCRIPT.as_bytes(), &mut out, &mut err);
-    let taken = out.taken.as_slice();
-    is_reported(status, err.as_slice(), "write fault\n")
-        && REPLIES.as_bytes().starts_with(taken)
-        && (status == DONE) == (taken.len() == REPLIES.len())
 }
 
 #[test]
 fn a_writer_that_fails_is_reported_as_a_write_fault(rt: HostRuntime) {
     for calls in 0..200usize {
-        assert!(rt; writer_fails(&rt, calls), "{calls}");
+        let mut out = Pipe::new(rt.alloc());
+        out.most = 3;
+        out.writes = calls;
+        let mut err = Vec::new(rt.alloc());
+        let status = program(&rt, &NO_WORDS, &mut SCRIPT.as_bytes(), &mut out, &mut err);
+        let taken = out.taken.as_slice();
+        assert!(rt;
+            fits(status, err.as_slice(), taken, "write fault\n"),
+            "{calls}"
+        );
+        assert!(rt;
+            (status == DONE) == (taken.len() == REPLIES.len()),
+            "{calls}"
+        );
     }
 }

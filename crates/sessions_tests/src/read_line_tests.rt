@@ -30,13 +30,9 @@ fn schema(rt: &impl Abort, alloc: Global) -> Schema {
 
 #[test]
 fn bytes_behind_a_line_feed_are_not_read(rt: HostRuntime) {
-    let alloc = rt.alloc();
-    let schema = schema(&rt, alloc);
-    let refused = match read_line(alloc, b"1: \nBEGIN", &schema, 0) {
-        Ok(_) => false,
-        Err(told) => told == Refusal::Syntax(3),
-    };
-    assert!(rt; refused);
+    let schema = schema(&rt, rt.alloc());
+    let told = read_line(rt.alloc(), b"1: \nBEGIN", &schema, 0);
+    assert!(rt; matches!(told, Err(Refusal::Syntax(3))));
 }
 
 /// Whether a key has a text and a number.
@@ -62,8 +58,6 @@ fn splits(alloc: Global, line: &str, schema: &Schema, table: u8, in_time: bool) 
 fn a_split_keeps_its_key_and_its_instant(rt: HostRuntime) {
     let alloc = rt.alloc();
     let schema = schema(&rt, alloc);
-    let line = "SPLIT: KEY r ('a''b', -7)";
-    assert!(rt; splits(alloc, line, &schema, 3, false), "{line}");
-    let line = "SPLIT: TIME t ('a''b', -7) AT 12";
-    assert!(rt; splits(alloc, line, &schema, 2, true), "{line}");
+    assert!(rt; splits(alloc, "SPLIT: KEY r ('a''b', -7)", &schema, 3, false));
+    assert!(rt; splits(alloc, "SPLIT: TIME t ('a''b', -7) AT 12", &schema, 2, true));
 }
