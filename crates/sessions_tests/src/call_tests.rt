@@ -19,21 +19,12 @@ fn write_all(rt: &impl Abort, alloc: Global, session: &mut Session) -> (bool, us
     (seen, count(rt, alloc, session))
 }
 
-fn refuses_select(alloc: Global, session: &mut Session) -> bool {
-    let shown = session.select(Form::Plain, &Keys::all(alloc, 1));
-    is_no_transaction(shown.err())
-}
-
-fn refuses_get(rt: &impl Abort, alloc: Global, session: &Session) -> bool {
-    let found = session.get(&key(rt, alloc, 1));
-    is_no_transaction(found.err())
-}
-
 /// Whether a session has no transaction open, as its calls answer.
 fn is_idle(rt: &impl Abort, alloc: Global, session: &mut Session) -> bool {
-    refuses_select(alloc, session)
-        && refuses_get(rt, alloc, session)
-        && is_no_transaction(session.rollback().err())
+    let shown = is_no_transaction(session.select(Form::Plain, &Keys::all(alloc, 1)).err());
+    let found = is_no_transaction(session.get(&key(rt, alloc, 1)).err());
+    let ended = is_no_transaction(session.rollback().err());
+    shown && found && ended
 }
 
 /// A session writes, and is idle after its rollback.
@@ -57,12 +48,6 @@ fn a_session_writes_and_rolls_back(rt: HostRuntime) {
     play(&rt, rt.alloc(), Scene::Calls);
 }
 
-/// Key bytes that the one node of a store has inside it.
-fn inside(rt: &impl Abort, alloc: Global) -> KeyBytes {
-    let bytes = vec![in alloc; 1, 5].expect(rt, "there is memory");
-    KeyBytes::new(bytes).expect(rt, "two bytes are few")
-}
-
 /// The one node of a store is split at a key inside it, and not at its least key.
 pub(crate) fn split_twice<J: StoreName, R: Abort + Wait>(
     rt: &R,
@@ -70,7 +55,8 @@ pub(crate) fn split_twice<J: StoreName, R: Abort + Wait>(
     store: &LockedStore<J>,
     receipts: &mut Vec<Receipt<J>>,
 ) -> Audit {
-    let at_key = Cut::Key(inside(rt, alloc));
+    let inside = vec![in alloc; 1, 5].expect(rt, "there is memory");
+    let at_key = Cut::Key(KeyBytes::new(inside).expect(rt, "two bytes are few"));
     assert!(rt; split(rt, store, at_key, receipts) == Some(true));
     let at_least = Cut::Key(KeyBytes::least(alloc));
     assert!(rt; split(rt, store, at_least, receipts) == Some(false));

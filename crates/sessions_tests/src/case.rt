@@ -2,14 +2,13 @@
 ghost use Rattle.std.specs.Prelude.{true};
 
 use crate::cut::Cut;
+use crate::pipe::Pipe;
 use crate::scene::Audit;
 use crate::step::keep;
 use growlog::StoreName;
 use serving::{End, Readings, Served, serve_session};
 use sessions::{Gate, LockedStore, Place, Receipt};
 use std::alloc::Global;
-use std::io;
-use std::io::{ErrorKind, Write};
 use std::process::Abort;
 use std::sync::Wait;
 use values::Instant;
@@ -79,19 +78,13 @@ struct Door {
     turns: u32,
 }
 
-impl Door {
-    fn is_open(&self, place: Place) -> bool {
-        self.shut != Some(place)
-    }
-}
-
 impl Gate for Door {
     fn pass<R: Wait>(&self, _rt: &R, who: u8, place: Place) -> bool {
         if who != self.number {
             return false;
         }
         for _ in 0..self.turns {
-            if self.is_open(place) {
+            if self.shut != Some(place) {
                 return true;
             }
         }
@@ -101,8 +94,8 @@ impl Gate for Door {
 
 /// Readings that rise by one, from 10 on.
 #[derive(Clone, Copy)]
-pub(crate) struct Ticks {
-    pub(crate) next: Instant,
+struct Ticks {
+    next: Instant,
 }
 
 impl Readings for Ticks {
@@ -115,61 +108,18 @@ impl Readings for Ticks {
     }
 }
 
-/// A writer that takes so many bytes, passes them on so many times, and then fails.
-#[derive(Drop)]
-pub(crate) struct Pipe {
-    pub(crate) taken: Vec<u8>,
-    pub(crate) room: usize,
-    pub(crate) flushes: usize,
-}
-
-impl Write for Pipe {
-    fn write(&mut self, buf: &[u8]) -> io::Result<usize> {
-        if self.room == 0 {
-            return Err(io::Error::from(ErrorKind::Other));
-        }
-        let n = buf.len().min(self.room);
-        self.room -= n;
-        self.taken.extend_from_slice(buf.split_at(n).0)?;
-        Ok(n)
-    }
-
-    fn flush(&mut self) -> io::Result<()> {
-        if self.flushes == 0 {
-            return Err(io::Error::from(ErrorKind::Other));
-        }
-        self.flushes -= 1;
-        Ok(())
-    }
-}
-
-/// Returns why a session ended, in the tables' words.
-pub(crate) fn kind_of(end: End) -> Ended {
-    match end {
-        End::Closed => Ended::Closed,
-        End::Read => Ended::Read,
-        End::Write => Ended::Write,
-        End::Gate(_) => Ended::Gate,
-        End::Memory => Ended::Memory,
-    }
-}
-
-/// Serves the session of a visit. When it has ended, it has no transaction open.
-fn serve<J: StoreName, R: Abort + Wait>(
+/// Serves a session with a number. When it has ended, it has no transaction open.
+pub(crate) fn serve<J: StoreName, R: Abort + Wait, G: Gate>(
     rt: &R,
     alloc: Global,
     store: &LockedStore<J>,
-    visit: &Visit<'_>,
+    number: u8,
+    gate: &G,
     reader: &mut Cut<'_>,
     writer: &mut Pipe,
 ) -> Served<J> {
-    let session = store.session(alloc, visit.number);
+    let session = store.session(alloc, number);
     let mut session = session.expect(rt, "the number is at most 64");
-    let door = Door {
-        number: visit.number,
-        shut: visit.limits.shut,
-        turns: visit.limits.turns,
-    };
     let mut ticks = Ticks { next: 10 };
     serve_session(
         rt,
@@ -178,9 +128,26 @@ fn serve<J: StoreName, R: Abort + Wait>(
         writer,
         &mut session,
         store,
-        &door,
+        gate,
         &mut ticks,
     )
+}
+
+/// The receipts of a served session, and why it ended, in the tables' words.
+pub(crate) fn parts_of<J: StoreName>(served: Served<J>) -> (Vec<Receipt<J>>, Ended) {
+    let Served {
+        receipts,
+        refused: _,
+        end,
+    } = served;
+    let end = match end {
+        End::Closed => Ended::Closed,
+        End::Read => Ended::Read,
+        End::Write => Ended::Write,
+        End::Gate(_) => Ended::Gate,
+        End::Memory => Ended::Memory,
+    };
+    (receipts, end)
 }
 
 /// Serves the session of a visit, and keeps its receipts: it is sent its replies, leaves as many
@@ -197,18 +164,26 @@ fn serve_visit<J: StoreName, R: Abort + Wait>(
         most: visit.limits.most,
         calls: visit.limits.reads,
     };
-    let mut writer = Pipe {
-        taken: Vec::new(alloc),
-        room: visit.limits.room,
-        flushes: visit.limits.flushes,
+    let mut writer = Pipe::new(alloc);
+    writer.room = visit.limits.room;
+    writer.flushes = visit.limits.flushes;
+    let door = Door {
+        number: visit.number,
+        shut: visit.limits.shut,
+        turns: visit.limits.turns,
     };
-    let Served {
-        receipts: taken,
-        refused: _,
-        end,
-    } = serve(rt, alloc, store, visit, &mut reader, &mut writer);
+    let served = serve(
+        rt,
+        alloc,
+        store,
+        visit.number,
+        &door,
+        &mut reader,
+        &mut writer,
+    );
+    let (taken, end) = parts_of(served);
     let is_sent = writer.taken.as_slice() == visit.replies.as_bytes();
-    let is_ended = kind_of(end) == visit.end && taken.len() == visit.receipts;
+    let is_ended = end == visit.end && taken.len() == visit.receipts;
     keep(rt, receipts, taken);
     is_sent && is_ended && reader.calls == visit.reads_left
 }

@@ -37,8 +37,12 @@ const RENAME: &[u8] = b"BEGIN\nUPDATE emp SET name = 'Eve' WHERE no = 1\nCOMMIT\
 
 const HALF: &[u8] = b"BEGIN\nINSERT INTO emp VALUES (3, 'Joe')\nCOM";
 
-const SPLIT: &[u8] =
-    b"BEGIN\nUPDATE emp SET name = 'Eve' WHERE no = 1\nCOMMIT\nSPLIT: TIME emp (1) AT 101\n";
+/// A commit and a split behind it, and 15 commits more.
+const BUSY: &[u8] =
+    b"BEGIN\nUPDATE emp SET name = 'Eve' WHERE no = 1\nCOMMIT\nSPLIT: TIME emp (1) AT 101\n\
+    BEGIN\nCOMMIT\nBEGIN\nCOMMIT\nBEGIN\nCOMMIT\nBEGIN\nCOMMIT\nBEGIN\nCOMMIT\n\
+    BEGIN\nCOMMIT\nBEGIN\nCOMMIT\nBEGIN\nCOMMIT\nBEGIN\nCOMMIT\nBEGIN\nCOMMIT\n\
+    BEGIN\nCOMMIT\nBEGIN\nCOMMIT\nBEGIN\nCOMMIT\nBEGIN\nCOMMIT\nBEGIN\nCOMMIT\n";
 
 /// Reads the next bytes that a client is sent, behind those that it has; how many there are.
 fn read_some(rt: &impl Abort, stream: &TcpStream, sent: &mut Vec<u8>) -> usize {
@@ -48,15 +52,6 @@ fn read_some(rt: &impl Abort, stream: &TcpStream, sent: &mut Vec<u8>) -> usize {
     let some = chunk.split_at(n).0;
     sent.extend_from_slice(some).expect(rt, "there is memory");
     n
-}
-
-/// Reads to the end of what a client is sent.
-fn read_all(rt: &impl Abort, stream: &TcpStream, sent: &mut Vec<u8>) {
-    for _ in 0..READS {
-        if read_some(rt, stream, sent) == 0 {
-            break;
-        }
-    }
 }
 
 fn send(rt: &impl Abort, stream: &TcpStream, text: &[u8]) {
@@ -69,7 +64,11 @@ fn end(rt: &impl Abort, stream: &TcpStream, sent: &mut Vec<u8>) {
     stream
         .shutdown(Shutdown::Write)
         .expect(rt, "the client ends");
-    read_all(rt, stream, sent);
+    for _ in 0..READS {
+        if read_some(rt, stream, sent) == 0 {
+            break;
+        }
+    }
 }
 
 /// A client that has sent a text.
@@ -123,16 +122,6 @@ fn break_off<R: Abort + Net<Listener = TcpListener, Stream = TcpStream>>(
     sent
 }
 
-/// A commit and a split behind it, and 15 commits more.
-fn busy_text(rt: &impl Abort, alloc: Global) -> Vec<u8> {
-    let mut text = Vec::from_slice(alloc, SPLIT).expect(rt, "there is memory");
-    for _ in 0..15u8 {
-        text.extend_from_slice(b"BEGIN\nCOMMIT\n")
-            .expect(rt, "there is memory");
-    }
-    text
-}
-
 /// A client that ends in the middle of a transaction, and one that comes when its session's number has
 /// come free again: those in between are no clients.
 fn ask_again<R: Abort + Net<Listener = TcpListener, Stream = TcpStream>>(
@@ -162,7 +151,7 @@ pub(crate) fn run_play<R: Abort + Net<Listener = TcpListener, Stream = TcpStream
         Play::Again => return ask_again(rt, alloc, port),
         Play::InTurn => ask(rt, alloc, port, HIRE),
         Play::Broken => break_off(rt, alloc, port),
-        Play::Busy => ask(rt, alloc, port, busy_text(rt, alloc).as_slice()),
+        Play::Busy => ask(rt, alloc, port, BUSY),
     };
     (first, ask(rt, alloc, port, LOOK))
 }

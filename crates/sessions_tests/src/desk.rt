@@ -1,5 +1,5 @@
 //! Employees, and what a session does and sees of them. The run ends where a call that must succeed does not.
-use sessions::{Session, StoreRefusal};
+use sessions::Session;
 use std::alloc::Global;
 use std::process::Abort;
 use steps::Listing;
@@ -72,14 +72,6 @@ fn by(rt: &impl Abort, alloc: Global, number: i64) -> Keys {
     Keys::of_comparison(alloc, 1, comparison).expect(rt, "there is memory")
 }
 
-fn sets(rt: &impl Abort, alloc: Global, name: &str) -> Vec<Set> {
-    let set = Set {
-        column: 2,
-        value: text(rt, alloc, name),
-    };
-    vec![in alloc; set].expect(rt, "there is memory")
-}
-
 /// How many employees of a number are given a name.
 pub(crate) fn set_name(
     rt: &impl Abort,
@@ -89,7 +81,11 @@ pub(crate) fn set_name(
     name: &str,
 ) -> usize {
     let keys = by(rt, alloc, number);
-    let sets = sets(rt, alloc, name);
+    let set = Set {
+        column: 2,
+        value: text(rt, alloc, name),
+    };
+    let sets = vec![in alloc; set].expect(rt, "there is memory");
     session
         .write(Write::Update(&keys, sets.as_slice()))
         .expect(rt, "the name is set")
@@ -135,20 +131,4 @@ pub(crate) fn count(rt: &impl Abort, alloc: Global, session: &mut Session) -> us
 /// Whether it is the refusal of a call with no transaction open.
 pub(crate) fn is_no_transaction(refusal: Option<Refusal>) -> bool {
     matches!(refusal, Some(Refusal::NoTransaction))
-}
-
-/// Whether a store's book refused a commit, since the transaction is not open there.
-pub(crate) fn is_not_open(refusal: &StoreRefusal) -> bool {
-    match refusal {
-        StoreRefusal::Session(_) => false,
-        StoreRefusal::Book(refusal) => refusal.is_not_open(),
-    }
-}
-
-/// Whether a store's book refused a call, since its journal is full.
-pub(crate) fn is_full(refusal: &StoreRefusal) -> bool {
-    match refusal {
-        StoreRefusal::Session(_) => false,
-        StoreRefusal::Book(refusal) => refusal.is_full(),
-    }
 }

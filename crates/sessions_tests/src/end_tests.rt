@@ -1,11 +1,7 @@
 //! How served sessions end, and what is kept then.
 use crate::case::{Case, Ended, Limits, NONE, Visit};
-use crate::scene::{Audit, Scene, play};
+use crate::scene::{Scene, play};
 use sessions::Place;
-use std::alloc::Global;
-use std::process::Abort;
-use std::sync::Wait;
-use std::thread::Threads;
 
 const HIRE: &str = "BEGIN\nINSERT INTO emp VALUES (1, 'Ann')\nCOMMIT\nSELECT * FROM emp\n";
 
@@ -28,15 +24,15 @@ const LEAVE: Visit<'static> = Visit {
     reads_left: 998,
 };
 
-const ENDS: &[(&str, Visit<'static>, Audit)] = &[
-    (
-        "an open transaction is dropped at the end",
-        LEAVE,
-        (1, 0, 0),
-    ),
-    (
-        "a reader that fails ends the session",
-        Visit {
+const ENDS: &[Case<'static>] = &[
+    Case {
+        what: "an open transaction is dropped at the end",
+        visits: &[LEAVE],
+        shows: (1, 0, 0),
+    },
+    Case {
+        what: "a reader that fails ends the session",
+        visits: &[Visit {
             text: HIRE,
             limits: Limits {
                 most: 10,
@@ -47,12 +43,12 @@ const ENDS: &[(&str, Visit<'static>, Audit)] = &[
             end: Ended::Read,
             reads_left: 0,
             ..LEAVE
-        },
-        (1, 0, 0),
-    ),
-    (
-        "a commit whose reply cannot be written stands",
-        Visit {
+        }],
+        shows: (1, 0, 0),
+    },
+    Case {
+        what: "a commit whose reply cannot be written stands",
+        visits: &[Visit {
             text: HIRE,
             limits: Limits { room: 22, ..NONE },
             replies: "begun 0\ninserted 1\ncom",
@@ -60,24 +56,24 @@ const ENDS: &[(&str, Visit<'static>, Audit)] = &[
             receipts: 2,
             reads_left: 999,
             ..LEAVE
-        },
-        (2, 1, 10),
-    ),
-    (
-        "a commit of whose reply no byte is written stands",
-        Visit {
+        }],
+        shows: (2, 1, 10),
+    },
+    Case {
+        what: "a commit of whose reply no byte is written stands",
+        visits: &[Visit {
             text: HIRE,
             limits: Limits { room: 19, ..NONE },
             end: Ended::Write,
             receipts: 2,
             reads_left: 999,
             ..LEAVE
-        },
-        (2, 1, 10),
-    ),
-    (
-        "a gate that gives up before a read ends the session",
-        Visit {
+        }],
+        shows: (2, 1, 10),
+    },
+    Case {
+        what: "a gate that gives up before a read ends the session",
+        visits: &[Visit {
             text: HIRE,
             limits: Limits {
                 shut: Some(Place::Read),
@@ -88,12 +84,12 @@ const ENDS: &[(&str, Visit<'static>, Audit)] = &[
             receipts: 2,
             reads_left: 999,
             ..LEAVE
-        },
-        (2, 1, 10),
-    ),
-    (
-        "a gate that gives up before a read leaves no transaction open",
-        Visit {
+        }],
+        shows: (2, 1, 10),
+    },
+    Case {
+        what: "a gate that gives up before a read leaves no transaction open",
+        visits: &[Visit {
             text: LOOK,
             limits: Limits {
                 shut: Some(Place::Read),
@@ -102,12 +98,12 @@ const ENDS: &[(&str, Visit<'static>, Audit)] = &[
             end: Ended::Gate,
             reads_left: 999,
             ..LEAVE
-        },
-        (1, 0, 0),
-    ),
-    (
-        "a gate that does not open for 1,000,000 turns leaves no transaction open",
-        Visit {
+        }],
+        shows: (1, 0, 0),
+    },
+    Case {
+        what: "a gate that does not open for 1,000,000 turns leaves no transaction open",
+        visits: &[Visit {
             text: LOOK,
             limits: Limits {
                 shut: Some(Place::Read),
@@ -117,12 +113,12 @@ const ENDS: &[(&str, Visit<'static>, Audit)] = &[
             end: Ended::Gate,
             reads_left: 999,
             ..LEAVE
-        },
-        (1, 0, 0),
-    ),
-    (
-        "a gate that gives up after a commit ends the session before its next line",
-        Visit {
+        }],
+        shows: (1, 0, 0),
+    },
+    Case {
+        what: "a gate that gives up after a commit ends the session before its next line",
+        visits: &[Visit {
             text: HIRE_ON,
             limits: Limits {
                 shut: Some(Place::Committed),
@@ -133,12 +129,12 @@ const ENDS: &[(&str, Visit<'static>, Audit)] = &[
             receipts: 2,
             reads_left: 999,
             ..LEAVE
-        },
-        (2, 1, 10),
-    ),
-    (
-        "replies are passed on before more is read",
-        Visit {
+        }],
+        shows: (2, 1, 10),
+    },
+    Case {
+        what: "replies are passed on before more is read",
+        visits: &[Visit {
             text: HIRE,
             limits: Limits {
                 most: 6,
@@ -151,36 +147,19 @@ const ENDS: &[(&str, Visit<'static>, Audit)] = &[
             end: Ended::Write,
             reads_left: 8,
             ..LEAVE
-        },
-        (1, 0, 0),
-    ),
+        }],
+        shows: (1, 0, 0),
+    },
+    Case {
+        what: "a session in whose transaction the reader fails is in nobody's way",
+        visits: THREE,
+        shows: (7, 1, 11),
+    },
 ];
-
-fn play_end<R: Abort + Threads + Wait + Sync>(
-    rt: &R,
-    alloc: Global,
-    end: (&'static str, Visit<'_>, Audit),
-) {
-    let (what, visit, shows) = end;
-    let visits = [visit];
-    let case = Case {
-        what,
-        visits: &visits,
-        shows,
-    };
-    play(rt, alloc, Scene::Serve(&case));
-}
-
-#[test]
-fn a_session_that_ends_leaves_its_receipts(rt: HostRuntime) {
-    for end in ENDS {
-        play_end(&rt, rt.alloc(), *end);
-    }
-}
 
 /// A session that hires one, one that renames him until its reader fails, and one that renames him
 /// and commits.
-const THREE: [Visit<'static>; 3] = [
+const THREE: &[Visit<'static>] = &[
     Visit {
         number: 1,
         text: HIRE,
@@ -206,12 +185,8 @@ const THREE: [Visit<'static>; 3] = [
 ];
 
 #[test]
-fn a_session_whose_reader_fails_is_in_nobodys_way(rt: HostRuntime) {
-    let visits = THREE;
-    let case = Case {
-        what: "a session in whose transaction the reader fails",
-        visits: &visits,
-        shows: (7, 1, 11),
-    };
-    play(&rt, rt.alloc(), Scene::Serve(&case));
+fn a_session_that_ends_leaves_its_receipts(rt: HostRuntime) {
+    for case in ENDS {
+        play(&rt, rt.alloc(), Scene::Serve(case));
+    }
 }

@@ -1,12 +1,11 @@
 //! Rounds with few nodes to pack, which they pack on the thread of their caller.
 use crate::desk::Desk;
-use crate::round_tests::{Tally, count, is_done_install, run_round, run_round_of};
+use crate::round_tests::{Rounds, Work, run_round, tally};
 use crate::scene::{Audit, Scene, play};
 use crate::step::{keep, write_history};
 use crate::thread_tests::Tray;
-use crate::worker_gate::{Barred, Lone, Meeting, Pair};
+use crate::worker_gate::{Rule, WorkerGate};
 use growlog::StoreName;
-use migrator::{Cause, run_migrator};
 use sessions::{LockedStore, Receipt};
 use std::alloc::Global;
 use std::process::Abort;
@@ -14,105 +13,67 @@ use std::sync::{Mutex, Wait};
 use std::thread;
 use std::thread::Threads;
 
-/// Rounds over a store with no history, whose gate is never open.
-pub(crate) fn pack_none<J: StoreName, R: Abort + Threads + Wait + Sync>(
-    rt: &R,
-    alloc: Global,
-    store: &LockedStore<J>,
-    desk: &mut Desk,
-    receipts: &mut Vec<Receipt<J>>,
-) -> Audit {
-    assert!(rt; run_round_of(rt, alloc, store, 8, 0, receipts) == (None, 1, 0));
-    write_history(rt, alloc, store, &mut desk.first, (7, 7), receipts);
-    assert!(rt; run_round_of(rt, alloc, store, 2, 0, receipts) == (None, 1, 0));
-    (4, 1, 7)
-}
-
-#[test]
-fn a_round_with_nothing_to_pack_passes_no_gate(rt: HostRuntime) {
-    play(&rt, rt.alloc(), Scene::PackNone);
-}
-
-/// A round of eight workers with one node to pack.
-pub(crate) fn pack_one<J: StoreName, R: Abort + Threads + Wait + Sync>(
-    rt: &R,
-    alloc: Global,
-    store: &LockedStore<J>,
-    desk: &mut Desk,
-    receipts: &mut Vec<Receipt<J>>,
-) -> Audit {
-    write_history(rt, alloc, store, &mut desk.first, (10, 11), receipts);
-    assert!(rt; run_round(rt, alloc, store, 8, &Lone::new(), receipts) == (None, 1, 1));
-    (7, 1, 11)
-}
-
-#[test]
-fn a_round_packs_one_node_as_worker_1(rt: HostRuntime) {
-    play(&rt, rt.alloc(), Scene::PackOne);
-}
-
-/// A round of eight workers with four nodes to pack, and one that finds nothing.
-pub(crate) fn pack_four<J: StoreName, R: Abort + Threads + Wait + Sync>(
-    rt: &R,
-    alloc: Global,
-    store: &LockedStore<J>,
-    desk: &mut Desk,
-    receipts: &mut Vec<Receipt<J>>,
-) -> Audit {
-    write_history(rt, alloc, store, &mut desk.first, (1, 5), receipts);
-    assert!(rt; run_round(rt, alloc, store, 8, &Lone::new(), receipts) == (None, 1, 4));
-    assert!(rt; run_round_of(rt, alloc, store, 1, 0, receipts) == (None, 1, 0));
-    (20, 1, 5)
-}
+/// Rounds with up to four nodes to pack: with no history, with that of one version, with one node,
+/// and with four, after which one finds nothing.
+const FEW: &[Rounds<'static>] = &[
+    Rounds {
+        works: &[
+            Work::Round(8, Rule::Few(0), false, (0, 0)),
+            Work::Write(7, 7),
+            Work::Round(2, Rule::Few(0), false, (0, 0)),
+        ],
+        shows: (4, 1, 7),
+    },
+    Rounds {
+        works: &[
+            Work::Write(10, 11),
+            Work::Round(8, Rule::Alone, false, (1, 1)),
+        ],
+        shows: (7, 1, 11),
+    },
+    Rounds {
+        works: &[
+            Work::Write(1, 5),
+            Work::Round(8, Rule::Alone, false, (4, 4)),
+            Work::Round(1, Rule::Few(0), false, (4, 4)),
+        ],
+        shows: (20, 1, 5),
+    },
+];
 
 #[test]
 fn a_round_packs_four_nodes_as_worker_1(rt: HostRuntime) {
-    play(&rt, rt.alloc(), Scene::PackFour);
+    for rounds in FEW {
+        play(&rt, rt.alloc(), Scene::Rounds(rounds));
+    }
 }
 
 /// A round with five nodes to pack, whose workers meet before the first.
-pub(crate) fn pack_five<J: StoreName, R: Abort + Threads + Wait + Sync>(
-    rt: &R,
-    alloc: Global,
-    store: &LockedStore<J>,
-    desk: &mut Desk,
-    receipts: &mut Vec<Receipt<J>>,
-) -> Audit {
-    write_history(rt, alloc, store, &mut desk.first, (1, 6), receipts);
-    assert!(rt; run_round(rt, alloc, store, 2, &Meeting::new(), receipts) == (None, 1, 5));
-    (23, 1, 6)
-}
+const FIVE: Rounds<'static> = Rounds {
+    works: &[Work::Write(1, 6), Work::Round(2, Rule::Both, false, (5, 5))],
+    shows: (23, 1, 6),
+};
 
 #[test]
 fn a_round_has_workers_for_five_nodes(rt: HostRuntime) {
-    play(&rt, rt.alloc(), Scene::PackFive);
-}
-
-/// Whether a round ended as its gate gave up, after so many installs.
-fn is_cut_after(tally: Tally, installs: usize) -> bool {
-    let (cause, begins, done) = tally;
-    matches!(cause, Some(Cause::Gate(_))) && begins == 1 && done == installs
+    play(&rt, rt.alloc(), Scene::Rounds(&FIVE));
 }
 
 /// Three rounds over four nodes to pack: one whose gate never opens, one whose gate lets two packings
 /// pass, and one that packs the rest.
-pub(crate) fn pack_two_by_two<J: StoreName, R: Abort + Threads + Wait + Sync>(
-    rt: &R,
-    alloc: Global,
-    store: &LockedStore<J>,
-    desk: &mut Desk,
-    receipts: &mut Vec<Receipt<J>>,
-) -> Audit {
-    write_history(rt, alloc, store, &mut desk.first, (1, 5), receipts);
-    assert!(rt; is_cut_after(run_round(rt, alloc, store, 2, &Barred::new(), receipts), 0));
-    assert!(rt; is_cut_after(run_round_of(rt, alloc, store, 2, 2, receipts), 2));
-    assert!(rt; run_round_of(rt, alloc, store, 2, 2, receipts) == (None, 1, 2));
-    (21, 1, 5)
-}
+const TWO_BY_TWO: Rounds<'static> = Rounds {
+    works: &[
+        Work::Write(1, 5),
+        Work::Round(2, Rule::Nobody, true, (0, 0)),
+        Work::Round(2, Rule::Few(2), true, (2, 2)),
+        Work::Round(2, Rule::Few(2), false, (4, 4)),
+    ],
+    shows: (21, 1, 5),
+};
 
 #[test]
 fn a_gate_is_passed_before_each_of_few_nodes(rt: HostRuntime) {
-    play(&rt, rt.alloc(), Scene::PackTwoByTwo);
+    play(&rt, rt.alloc(), Scene::Rounds(&TWO_BY_TWO));
 }
 
 /// A round of a session, which must pack or find packed what it has to; its receipts are put in the
@@ -122,18 +83,14 @@ fn run_beside<J: StoreName, R: Abort + Threads + Wait + Sync>(
     alloc: Global,
     store: &LockedStore<J>,
     number: u8,
-    gate: &Pair,
+    gate: &WorkerGate,
     tray: &Tray<J>,
 ) {
-    let mut session = store
-        .session(alloc, number)
-        .expect(rt, "the number is upto 64");
-    let round = run_migrator(rt, alloc, store, &mut session, 1, gate);
     let mut receipts = Vec::new(alloc);
-    let (cause, begins, _) = count(rt, round, &mut receipts);
+    let (gave_up, _) = run_round(rt, alloc, store, (number, 1), gate, &mut receipts);
     let mut all = tray.lock(rt);
     keep(rt, &mut *all, receipts);
-    assert!(rt; cause.is_none() && begins == 1);
+    assert!(rt; !gave_up);
 }
 
 /// Two rounds, each in a thread of its own.
@@ -141,7 +98,7 @@ fn run_two<J: StoreName, R: Abort + Threads + Wait + Sync>(
     rt: &R,
     alloc: Global,
     store: &LockedStore<J>,
-    gate: &Pair,
+    gate: &WorkerGate,
     tray: &Tray<J>,
 ) {
     thread::scope(thread::scope_env(), rt, |scope| {
@@ -150,15 +107,6 @@ fn run_two<J: StoreName, R: Abort + Threads + Wait + Sync>(
             let _running = handle.expect(rt, "a thread starts");
         }
     })
-}
-
-/// How many of these are receipts of installs that were done.
-fn count_done<J: StoreName>(receipts: &[Receipt<J>]) -> usize {
-    let mut done = 0usize;
-    for receipt in receipts {
-        done = done.saturating_add(is_done_install(receipt.entry.entry()) as usize);
-    }
-    done
 }
 
 /// Two rounds that have begun before either packs the one node that there is.
@@ -171,9 +119,9 @@ pub(crate) fn pack_one_twice<J: StoreName, R: Abort + Threads + Wait + Sync>(
 ) -> Audit {
     write_history(rt, alloc, store, &mut desk.first, (10, 11), receipts);
     let tray = Mutex::new(Vec::new(alloc));
-    run_two(rt, alloc, store, &Pair::new(), &tray);
+    run_two(rt, alloc, store, &WorkerGate::new(Rule::Twice), &tray);
     let both = tray.into_inner();
-    assert!(rt; both.len() == 4 && count_done(both.as_slice()) == 1);
+    assert!(rt; both.len() == 4 && tally(both.as_slice()).1 == 1);
     keep(rt, receipts, both);
     (9, 1, 11)
 }

@@ -50,8 +50,6 @@ mod scene;
 #[cfg(test)]
 mod socket_tests;
 #[cfg(test)]
-mod staff;
-#[cfg(test)]
 mod step;
 #[cfg(test)]
 mod store_tests;
@@ -59,8 +57,6 @@ mod store_tests;
 mod stream_tests;
 #[cfg(test)]
 mod thread_tests;
-#[cfg(test)]
-mod wanted;
 #[cfg(test)]
 mod word_tests;
 #[cfg(test)]

@@ -1,41 +1,28 @@
 //! Sessions side by side, and the same lines one after another, in the order of their receipts.
-ghost use Rattle.std.specs.Prelude.{◌≡◌, []};
-
-use crate::case::{Ended, Pipe, Ticks, kind_of};
+use crate::case::{Ended, parts_of, serve};
 use crate::cut::Cut;
-use crate::scene::closed_with;
-use crate::step::keep;
-use growlog::{NewLog, StoreName};
+use crate::desk::{Desk, count};
+use crate::pipe::Pipe;
+use crate::scene::{Audit, Scene, play};
+use crate::step::{begin, keep};
+use growlog::StoreName;
+use listening::AlwaysOpen;
 use scripts::run_script;
-use serving::{End, Served, serve_session};
-use sessions::{Entry, Gate, LockedStore, Place, Receipt, SharedEntry};
+use sessions::{Entry, LockedStore, Receipt};
 use std::alloc::Global;
-use std::marker::Brand;
 use std::process::Abort;
 use std::sync::{Mutex, Wait};
 use std::thread;
 use std::thread::Threads;
 use values::{Instant, Schema};
 
-/// A gate where nobody waits.
-#[derive(Clone, Copy)]
-struct Open;
-
-impl Gate for Open {
-    fn pass<R: Wait>(&self, _rt: &R, _who: u8, _place: Place) -> bool {
-        true
-    }
-}
-
-/// A line of a session with its reply: the number of the session's last receipt when it was sent,
-/// and the reading of its commit, where it is one.
+/// A line of a session: the number of the session's last receipt when it was sent, and its lines and
+/// replies in a script, which sets the clock before a commit.
 #[derive(Drop)]
 struct Answered {
     number: u64,
-    session: u8,
-    reading: Option<Instant>,
-    line: &'static str,
-    reply: Vec<u8>,
+    script: String,
+    replies: Vec<u8>,
 }
 
 /// What the sessions have handed over.
@@ -128,77 +115,90 @@ fn reading_of(entry: &Entry) -> Option<Instant> {
     }
 }
 
+/// A line of a session as a script has it, behind the reading of its commit.
+fn script_of(
+    rt: &impl Abort,
+    alloc: Global,
+    session: u8,
+    reading: Option<Instant>,
+    line: &str,
+) -> String {
+    let script = match reading {
+        Some(reading) => format!(in alloc; "clock: {reading}\n{session}: {line}\n"),
+        None if line.starts_with("SPLIT") || line.starts_with("MIGRATE") => {
+            format!(in alloc; "{line}\n")
+        }
+        None => format!(in alloc; "{session}: {line}\n"),
+    };
+    script.expect(rt, "there is memory")
+}
+
+/// A reply of a session as a script has it, behind that to a reading.
+fn replies_of(rt: &impl Abort, alloc: Global, has_reading: bool, reply: &[u8]) -> Vec<u8> {
+    let mut replies = Vec::new(alloc);
+    if has_reading {
+        replies
+            .extend_from_slice(b"ok\n")
+            .expect(rt, "there is memory");
+    }
+    replies
+        .extend_from_slice(reply)
+        .expect(rt, "there is memory");
+    replies
+}
+
 /// The lines of a session with their replies.
 fn answered_by<J: StoreName>(
     rt: &impl Abort,
     alloc: Global,
     session: u8,
-    sent: &[u8],
+    mut sent: &[u8],
     receipts: &[Receipt<J>],
 ) -> Vec<Answered> {
     let mut answered = Vec::new(alloc);
-    let mut sent = sent;
     let mut left = receipts;
     let mut number = 0;
     let mut is_open = false;
-    for line in lines(rt, alloc) {
-        let taken = receipts_taken(line, is_open, left);
-        let (own, rest) = left
-            .split_at_checked(taken)
-            .expect(rt, "there are receipts");
-        left = rest;
-        let last = own.last();
-        number = last.map_or(number, |receipt| receipt.number);
-        is_open = match line {
-            "BEGIN" => true,
-            "COMMIT" | "ROLLBACK" => false,
-            _ => is_open,
-        };
-        let mut reply = Vec::new(alloc);
-        reply
-            .extend_from_slice(take_reply(rt, &mut sent))
-            .expect(rt, "there is memory");
-        let one = Answered {
-            number,
-            session,
-            reading: last.and_then(|receipt| reading_of(receipt.entry.entry())),
-            line,
-            reply,
-        };
-        answered.push(one).expect(rt, "there is memory");
+    for _ in 0..TIMES {
+        for line in LINES {
+            let taken = receipts_taken(line, is_open, left);
+            let (own, rest) = left
+                .split_at_checked(taken)
+                .expect(rt, "there are receipts");
+            left = rest;
+            let mut reading = None;
+            if let Some(receipt) = own.last() {
+                number = receipt.number;
+                reading = reading_of(receipt.entry.entry());
+            }
+            is_open = match *line {
+                "BEGIN" => true,
+                "COMMIT" | "ROLLBACK" => false,
+                _ => is_open,
+            };
+            let reply = take_reply(rt, &mut sent);
+            let one = Answered {
+                number,
+                script: script_of(rt, alloc, session, reading, line),
+                replies: replies_of(rt, alloc, reading.is_some(), reply),
+            };
+            answered.push(one).expect(rt, "there is memory");
+        }
     }
     assert!(rt; sent.is_empty() && left.is_empty());
     answered
 }
 
-/// All lines that a session has.
-fn lines(rt: &impl Abort, alloc: Global) -> Vec<&'static str> {
-    let mut lines = Vec::new(alloc);
+/// The text of a session's lines.
+fn text_of(rt: &impl Abort, alloc: Global) -> String {
+    let mut text = String::new(alloc);
     for _ in 0..TIMES {
-        lines.extend_from_slice(LINES).expect(rt, "there is memory");
-    }
-    lines
-}
-
-/// The text of these lines.
-fn text_of(rt: &impl Abort, alloc: Global) -> Vec<u8> {
-    let mut text = Vec::new(alloc);
-    for line in lines(rt, alloc) {
-        text.extend_from_slice(line.as_bytes())
-            .expect(rt, "there is memory");
-        text.push(b'\n').expect(rt, "there is memory");
+        for line in LINES {
+            text.push_str(line).expect(rt, "there is memory");
+            text.push('\n').expect(rt, "there is memory");
+        }
     }
     text
-}
-
-/// The receipts of a served session, and why it ended.
-fn parts_of<J: StoreName>(served: Served<J>) -> (Vec<Receipt<J>>, End) {
-    let Served {
-        receipts,
-        refused: _,
-        end,
-    } = served;
-    (receipts, end)
 }
 
 /// Serves a session its lines, and hands over what it was sent and its receipts.
@@ -210,37 +210,25 @@ fn serve_lines<J: StoreName, R: Abort + Wait>(
     tray: &Mutex<Tray<J>>,
 ) {
     let text = text_of(rt, alloc);
-    let mut session = store.session(alloc, number).expect(rt, "it is a session");
     let mut reader = Cut {
-        rest: text.as_slice(),
+        rest: text.as_bytes(),
         most: 7,
         calls: 10_000,
     };
-    let mut writer = Pipe {
-        taken: Vec::new(alloc),
-        room: 1_000_000,
-        flushes: 10_000,
-    };
-    let mut ticks = Ticks { next: 10 };
-    let served = serve_session(
+    let mut writer = Pipe::new(alloc);
+    let served = serve(
         rt,
         alloc,
+        store,
+        number,
+        &AlwaysOpen,
         &mut reader,
         &mut writer,
-        &mut session,
-        store,
-        &Open,
-        &mut ticks,
     );
     let (receipts, end) = parts_of(served);
-    assert!(rt; kind_of(end) == Ended::Closed);
-    let mut answered = answered_by(
-        rt,
-        alloc,
-        number,
-        writer.taken.as_slice(),
-        receipts.as_slice(),
-    );
+    assert!(rt; end == Ended::Closed);
+    let sent = writer.taken.as_slice();
+    let mut answered = answered_by(rt, alloc, number, sent, receipts.as_slice());
     let mut tray = tray.lock(rt);
     tray.answered
         .append(&mut answered)
@@ -263,94 +251,59 @@ fn serve_eight<J: StoreName, R: Abort + Threads + Wait + Sync>(
     })
 }
 
-/// A script of the lines, one after another.
-fn script_of(rt: &impl Abort, alloc: Global, answered: &[Answered]) -> String {
-    let mut script = String::new(alloc);
-    for one in answered {
-        if let Some(reading) = one.reading {
-            let clock = format!(in alloc; "clock: {reading}\n").expect(rt, "there is memory");
-            script.push_str(&clock).expect(rt, "there is memory");
-        }
-        if !one.line.starts_with("SPLIT") && !one.line.starts_with("MIGRATE") {
-            let session = format!(in alloc; "{}: ", one.session).expect(rt, "there is memory");
-            script.push_str(&session).expect(rt, "there is memory");
-        }
-        script.push_str(one.line).expect(rt, "there is memory");
-        script.push('\n').expect(rt, "there is memory");
-    }
-    script
-}
-
-/// All replies, one after another, with that of a script's line that sets the clock before a commit.
-fn replies_of(rt: &impl Abort, alloc: Global, answered: &[Answered]) -> Vec<u8> {
-    let mut replies = Vec::new(alloc);
-    for one in answered {
-        if one.reading.is_some() {
-            replies
-                .extend_from_slice(b"ok\n")
-                .expect(rt, "there is memory");
-        }
-        let reply = one.reply.as_slice();
-        replies
-            .extend_from_slice(reply)
-            .expect(rt, "there is memory");
-    }
-    replies
-}
-
-/// Runs a script over a system, and returns its transcript.
+/// The replies of a script.
 fn transcript_of(rt: &impl Abort, alloc: Global, script: &str) -> Vec<u8> {
     let schema = Schema::sample(alloc).expect(rt, "there is memory");
-    let mut reader = Cut {
-        rest: script.as_bytes(),
-        most: 10_000,
-        calls: 10_000,
-    };
-    let mut writer = Pipe {
-        taken: Vec::new(alloc),
-        room: 10_000_000,
-        flushes: 10_000,
-    };
-    let ran = run_script(alloc, &mut reader, &mut writer, schema);
+    let mut transcript = Vec::new(alloc);
+    let ran = run_script(alloc, &mut script.as_bytes(), &mut transcript, schema);
     assert!(rt; ran.is_ok());
-    writer.taken
+    transcript
 }
 
-/// Serves sessions side by side round a store that closes with all receipts, and compares what they
-/// were sent with one history.
-fn replay<J: StoreName, R: Abort + Threads + Wait + Sync>(
+/// Whether a script of the lines, one after another, has their replies.
+fn are_one_history(rt: &impl Abort, alloc: Global, answered: &[Answered]) -> bool {
+    let mut script = String::new(alloc);
+    let mut replies = Vec::new(alloc);
+    for one in answered {
+        script
+            .push_str(one.script.as_str())
+            .expect(rt, "there is memory");
+        replies
+            .extend_from_slice(one.replies.as_slice())
+            .expect(rt, "there is memory");
+    }
+    transcript_of(rt, alloc, script.as_str()) == replies
+}
+
+/// Serves sessions side by side, and compares what they were sent with one history. A session begins
+/// then, and sees what the store must show.
+pub(crate) fn serve_and_replay<J: StoreName, R: Abort + Threads + Wait + Sync>(
     rt: &R,
     alloc: Global,
-    schema: Schema,
-    opened: NewLog<SharedEntry>,
-)
-    requires log { opened.seen.book ≡ J.book }
-    requires origin { J.origin ≡ record { schema = schema; log = []; most_entries = 1000000 } }
-{
-    let store = LockedStore::<J>::new(alloc, schema, 1_000_000, opened).expect(
-        rt,
-        "there is memory",
-    );
+    store: &LockedStore<J>,
+    desk: &mut Desk,
+    receipts: &mut Vec<Receipt<J>>,
+) -> Audit {
     let tray = Mutex::new(Tray {
         answered: Vec::new(alloc),
         receipts: Vec::new(alloc),
     });
-    serve_eight(rt, alloc, &store, &tray);
+    serve_eight(rt, alloc, store, &tray);
     let Tray {
         mut answered,
-        receipts,
+        receipts: taken,
     } = tray.into_inner();
+    keep(rt, receipts, taken);
     answered
         .sort_by_key(|one| one.number)
         .expect(rt, "there is memory");
-    let script = script_of(rt, alloc, answered.as_slice());
-    let transcript = transcript_of(rt, alloc, script.as_str());
-    assert!(rt; transcript == replies_of(rt, alloc, answered.as_slice()));
-    assert!(rt; closed_with(rt, alloc, store, receipts).is_some());
+    assert!(rt; are_one_history(rt, alloc, answered.as_slice()));
+    begin(rt, store, &mut desk.service, receipts);
+    let last = desk.service.start().expect(rt, "it has begun");
+    (receipts.len(), count(rt, alloc, &mut desk.service), last)
 }
 
 #[test]
 fn eight_sessions_were_sent_one_history(rt: HostRuntime) {
-    let schema = Schema::sample(rt.alloc()).expect(&rt, "there is memory");
-    replay::<Brand, _>(&rt, rt.alloc(), schema, NewLog::new());
+    play(&rt, rt.alloc(), Scene::OneHistory);
 }

@@ -5,14 +5,13 @@ use crate::call_tests::{make_calls, split_twice};
 use crate::case::{Case, serve_case};
 use crate::closing_tests::read_back;
 use crate::desk::{Desk, count_in, open_desk};
-use crate::few_tests::{
-    pack_five, pack_four, pack_none, pack_one, pack_one_twice, pack_two_by_two,
-};
+use crate::few_tests::pack_one_twice;
 use crate::install_tests::install_twice;
-use crate::round_tests::{pack_all, pack_by_number, pack_in_two, pack_nothing, pack_together};
+use crate::replay_tests::serve_and_replay;
+use crate::round_tests::{Rounds, run_rounds};
 use crate::run_tests::{hire_by_two, name_by_two};
-use crate::store_tests::{commit_elsewhere, count_beside};
-use crate::thread_tests::{hire_in_threads, keep_view, name_in_threads};
+use crate::store_tests::{commit_elsewhere, count_beside, fill};
+use crate::thread_tests::{keep_view, run_threads};
 use growlog::{NewLog, StoreName};
 use sessions::{BlockCache, Closed, LockedStore, Receipt, SharedEntry, Unclosed, listing_of};
 use std::alloc::Global;
@@ -37,20 +36,13 @@ pub(crate) enum Scene<'a> {
     NameByTwo,
     BesideEachOther,
     Elsewhere,
+    Full,
     HireInThreads,
     NameInThreads,
     OldView,
-    PackAll,
-    PackInTwo,
-    TwoPackers,
-    Badges,
-    Barred,
-    PackNone,
-    PackOne,
-    PackFour,
-    PackFive,
-    PackTwoByTwo,
+    Rounds(&'a Rounds<'a>),
     PackOneTwice,
+    OneHistory,
     Serve(&'a Case<'a>),
 }
 
@@ -81,15 +73,17 @@ pub(crate) fn closed_with<J: StoreName>(
     }
 }
 
-/// Closes a store with one receipt more than those with which it must not close; none where it does
-/// not close in the end.
-fn closed_at_last<J: StoreName>(
+/// Closes a store with these receipts, but first tries to without the last one, which must fail.
+/// None where it does not close with all.
+fn closed_in_two<J: StoreName>(
     rt: &impl Abort,
     alloc: Global,
     store: LockedStore<J>,
-    receipts: Vec<Receipt<J>>,
-    last: Receipt<J>,
+    mut receipts: Vec<Receipt<J>>,
 ) -> Option<Audit> {
+    let Some(last) = receipts.pop() else {
+        return closed_with(rt, alloc, store, receipts);
+    };
     match store.close(receipts) {
         Ok(_) => panic!(rt; "it closed without the last receipt"),
         Err(
@@ -101,20 +95,6 @@ fn closed_at_last<J: StoreName>(
             receipts.push(last).expect(rt, "there is memory");
             closed_with(rt, alloc, store, receipts)
         }
-    }
-}
-
-/// Closes a store with these receipts, but first tries to without the last one, which must fail.
-/// None where it does not close with all.
-fn closed_in_two<J: StoreName>(
-    rt: &impl Abort,
-    alloc: Global,
-    store: LockedStore<J>,
-    mut receipts: Vec<Receipt<J>>,
-) -> Option<Audit> {
-    match receipts.pop() {
-        None => closed_with(rt, alloc, store, receipts),
-        Some(last) => closed_at_last(rt, alloc, store, receipts, last),
     }
 }
 
@@ -136,20 +116,13 @@ fn play_at<J: StoreName, R: Abort + Threads + Wait + Sync>(
         Scene::NameByTwo => name_by_two(rt, alloc, store, desk, receipts),
         Scene::BesideEachOther => count_beside(rt, alloc, store, desk, receipts),
         Scene::Elsewhere => commit_elsewhere(rt, alloc, store, desk, receipts),
-        Scene::HireInThreads => hire_in_threads(rt, alloc, store, receipts),
-        Scene::NameInThreads => name_in_threads(rt, alloc, store, receipts),
+        Scene::Full => fill(rt, store, desk, receipts),
+        Scene::HireInThreads => run_threads(rt, alloc, store, 2, true, receipts),
+        Scene::NameInThreads => run_threads(rt, alloc, store, 8, false, receipts),
         Scene::OldView => keep_view(rt, alloc, store, receipts),
-        Scene::PackAll => pack_all(rt, alloc, store, desk, receipts),
-        Scene::PackInTwo => pack_in_two(rt, alloc, store, desk, receipts),
-        Scene::TwoPackers => pack_together(rt, alloc, store, desk, receipts),
-        Scene::Badges => pack_by_number(rt, alloc, store, desk, receipts),
-        Scene::Barred => pack_nothing(rt, alloc, store, desk, receipts),
-        Scene::PackNone => pack_none(rt, alloc, store, desk, receipts),
-        Scene::PackOne => pack_one(rt, alloc, store, desk, receipts),
-        Scene::PackFour => pack_four(rt, alloc, store, desk, receipts),
-        Scene::PackFive => pack_five(rt, alloc, store, desk, receipts),
-        Scene::PackTwoByTwo => pack_two_by_two(rt, alloc, store, desk, receipts),
+        Scene::Rounds(rounds) => run_rounds(rt, alloc, store, desk, rounds, receipts),
         Scene::PackOneTwice => pack_one_twice(rt, alloc, store, desk, receipts),
+        Scene::OneHistory => serve_and_replay(rt, alloc, store, desk, receipts),
         Scene::Serve(case) => serve_case(rt, alloc, store, case, receipts),
     }
 }
@@ -166,18 +139,20 @@ fn play_with<J: StoreName, R: Abort + Threads + Wait + Sync>(
     play_at(rt, alloc, store, scene, &mut desk, receipts)
 }
 
-/// Plays a scene round a store of these tables, and closes it.
+/// Plays a scene round a store of these tables, whose journal may have so many entries, and closes it.
 fn play_round<J: StoreName, R: Abort + Threads + Wait + Sync>(
     rt: &R,
     alloc: Global,
     schema: Schema,
+    most_entries: usize,
     opened: NewLog<SharedEntry>,
     scene: Scene<'_>,
 )
     requires log { opened.seen.book ≡ J.book }
-    requires origin { J.origin ≡ record { schema = schema; log = []; most_entries = 1000000 } }
+    requires origin { J.origin
+        ≡ record { schema = schema; log = []; most_entries = most_entries } }
 {
-    let store = LockedStore::<J>::new(alloc, schema, 1_000_000, opened).expect(
+    let store = LockedStore::<J>::new(alloc, schema, most_entries, opened).expect(
         rt,
         "there is memory",
     );
@@ -190,5 +165,9 @@ fn play_round<J: StoreName, R: Abort + Threads + Wait + Sync>(
 /// last one, and then close with all, and show what it must.
 pub(crate) fn play<R: Abort + Threads + Wait + Sync>(rt: &R, alloc: Global, scene: Scene<'_>) {
     let schema = Schema::sample(alloc).expect(rt, "there is memory");
-    play_round::<Brand, _>(rt, alloc, schema, NewLog::new(), scene);
+    let most_entries = match scene {
+        Scene::Full => 1,
+        _ => 1_000_000,
+    };
+    play_round::<Brand, _>(rt, alloc, schema, most_entries, NewLog::new(), scene);
 }

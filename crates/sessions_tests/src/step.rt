@@ -129,11 +129,6 @@ pub(crate) fn name_often<J: StoreName, R: Abort + Wait>(
     }
 }
 
-/// The name of the employee 1 from an instant on.
-fn name_from(instant: Instant) -> &'static str {
-    if instant % 2 == 0 { "Bea" } else { "Ann" }
-}
-
 /// The employee 1 has another name at each instant from the first to the last, and the node is split at each but the first.
 pub(crate) fn write_history<J: StoreName, R: Abort + Wait>(
     rt: &R,
@@ -145,7 +140,8 @@ pub(crate) fn write_history<J: StoreName, R: Abort + Wait>(
 ) {
     let (first, last) = instants;
     for instant in first..last.saturating_add(1) {
-        begin_and_name(rt, alloc, store, session, name_from(instant), receipts);
+        let name = if instant % 2 == 0 { "Bea" } else { "Ann" };
+        begin_and_name(rt, alloc, store, session, name, receipts);
         assert!(rt; commit(rt, store, session, instant, receipts));
         if first < instant {
             let cut = Cut::Time(KeyBytes::least(alloc), instant);

@@ -1,11 +1,11 @@
 //! Sessions beside each other, and a session at a store where it did not begin.
 ghost use Rattle.std.specs.Prelude.{◌≡◌, []};
 
-use crate::desk::{Desk, count, insert, is_full, is_not_open, open_desk};
+use crate::desk::{Desk, count, insert};
 use crate::scene::{Audit, Scene, closed_with, play};
 use crate::step::{begin, commit};
 use growlog::{NewLog, StoreName};
-use sessions::{LockedStore, Receipt, Session, SharedEntry};
+use sessions::{LockedStore, Receipt, Session, SharedEntry, StoreRefusal};
 use std::alloc::Global;
 use std::marker::Brand;
 use std::process::Abort;
@@ -69,7 +69,8 @@ fn refuses_commit<K: StoreName, R: Abort + Wait>(
         Ok(_receipt) => panic!(rt; "it was committed elsewhere"),
         Err(refusal) => {
             let shown = closed_with(rt, alloc, other, Vec::new(alloc));
-            is_not_open(&refusal) && shown == Some((0, 0, 0))
+            matches!(&refusal, StoreRefusal::Book(refusal) if refusal.is_not_open())
+                && shown == Some((0, 0, 0))
         }
     }
 }
@@ -97,34 +98,26 @@ fn a_transaction_is_open_at_its_own_store_alone(rt: HostRuntime) {
     play(&rt, rt.alloc(), Scene::Elsewhere);
 }
 
-/// Whether a store of these tables, whose journal may have one entry, begins one transaction and refuses the next since it
-/// is full, and closes with that entry.
-fn is_full_at_one<J: StoreName, R: Abort + Wait>(
+/// A session begins at a store whose journal may have one entry, and another is refused since it is full.
+pub(crate) fn fill<J: StoreName, R: Abort + Wait>(
     rt: &R,
-    alloc: Global,
-    schema: Schema,
-    opened: NewLog<SharedEntry>,
-) -> bool
-    requires log { opened.seen.book ≡ J.book }
-    requires origin { J.origin ≡ record { schema = schema; log = []; most_entries = 1 } }
-{
-    let store = LockedStore::<J>::new(alloc, schema, 1, opened).expect(rt, "there is memory");
-    let mut desk = open_desk(rt, alloc);
-    let mut receipts = Vec::new(alloc);
+    store: &LockedStore<J>,
+    desk: &mut Desk,
+    receipts: &mut Vec<Receipt<J>>,
+) -> Audit {
     assert!(rt; store.entries(rt) == 0);
-    begin(rt, &store, &mut desk.first, &mut receipts);
+    begin(rt, store, &mut desk.first, receipts);
     assert!(rt; store.entries(rt) == store.most_entries());
     match store.begin(rt, &mut desk.second) {
         Ok(_receipt) => panic!(rt; "it began in a full journal"),
         Err(refusal) => {
-            let shown = closed_with(rt, alloc, store, receipts);
-            is_full(&refusal) && shown == Some((1, 0, 0))
+            assert!(rt; matches!(&refusal, StoreRefusal::Book(refusal) if refusal.is_full()));
         }
     }
+    (1, 0, 0)
 }
 
 #[test]
 fn a_journal_is_full_with_all_entries_that_it_may_have(rt: HostRuntime) {
-    let schema = Schema::sample(rt.alloc()).expect(&rt, "there is memory");
-    assert!(rt; is_full_at_one::<Brand, _>(&rt, rt.alloc(), schema, NewLog::new()));
+    play(&rt, rt.alloc(), Scene::Full);
 }

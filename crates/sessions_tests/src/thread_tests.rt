@@ -11,28 +11,12 @@ use std::sync::{Mutex, Wait};
 use std::thread;
 use std::thread::Threads;
 
-/// The receipts of twenty transactions of a session, each with an employee of its own, or of ten that all write one row.
-fn transact<J: StoreName, R: Abort + Wait>(
-    rt: &R,
-    alloc: Global,
-    store: &LockedStore<J>,
-    session: &mut Session,
-    hires: bool,
-) -> Vec<Receipt<J>> {
-    let mut receipts = Vec::new(alloc);
-    if hires {
-        hire_twenty(rt, alloc, store, session, &mut receipts);
-    } else {
-        name_often(rt, alloc, store, session, &mut receipts);
-    }
-    receipts
-}
-
 /// A tray in which threads put receipts: what a thread returns may be dropped, and a receipt may
 /// not.
 pub(crate) type Tray<J> = Mutex<Vec<Receipt<J>>>;
 
-/// Transactions of a session that is new, whose receipts are put in the tray.
+/// Twenty transactions of a session that is new, each with an employee of its own, or ten that all
+/// write one row. Their receipts are put in the tray.
 fn run_session<J: StoreName, R: Abort + Wait>(
     rt: &R,
     alloc: Global,
@@ -42,7 +26,12 @@ fn run_session<J: StoreName, R: Abort + Wait>(
     tray: &Tray<J>,
 ) {
     let mut session = session(rt, alloc, number);
-    let receipts = transact(rt, alloc, store, &mut session, hires);
+    let mut receipts = Vec::new(alloc);
+    if hires {
+        hire_twenty(rt, alloc, store, &mut session, &mut receipts);
+    } else {
+        name_often(rt, alloc, store, &mut session, &mut receipts);
+    }
     let mut all = tray.lock(rt);
     keep(rt, &mut *all, receipts);
 }
@@ -65,20 +54,6 @@ fn run_in_threads<J: StoreName, R: Abort + Threads + Wait + Sync>(
     })
 }
 
-/// The same, where the receipts are kept.
-fn keep_of_threads<J: StoreName, R: Abort + Threads + Wait + Sync>(
-    rt: &R,
-    alloc: Global,
-    store: &LockedStore<J>,
-    threads: u8,
-    hires: bool,
-    receipts: &mut Vec<Receipt<J>>,
-) {
-    let tray = Mutex::new(Vec::new(alloc));
-    run_in_threads(rt, alloc, store, threads, hires, &tray);
-    keep(rt, receipts, tray.into_inner());
-}
-
 /// How many of these are receipts of transactions that were committed.
 fn count_committed<J: StoreName>(receipts: &[Receipt<J>]) -> u64 {
     let mut count = 0u64;
@@ -89,35 +64,29 @@ fn count_committed<J: StoreName>(receipts: &[Receipt<J>]) -> u64 {
     count
 }
 
-/// Two sessions that each insert twenty employees.
-pub(crate) fn hire_in_threads<J: StoreName, R: Abort + Threads + Wait + Sync>(
+/// So many sessions in threads, of which each inserts twenty employees, or all write one row, where
+/// each commit has its instant.
+pub(crate) fn run_threads<J: StoreName, R: Abort + Threads + Wait + Sync>(
     rt: &R,
     alloc: Global,
     store: &LockedStore<J>,
+    threads: u8,
+    hires: bool,
     receipts: &mut Vec<Receipt<J>>,
 ) -> Audit {
-    keep_of_threads(rt, alloc, store, 2, true, receipts);
-    (80, 40, 40)
+    let tray = Mutex::new(Vec::new(alloc));
+    run_in_threads(rt, alloc, store, threads, hires, &tray);
+    keep(rt, receipts, tray.into_inner());
+    if hires {
+        (80, 40, 40)
+    } else {
+        (160, 1, count_committed(receipts.as_slice()))
+    }
 }
 
 #[test]
-fn two_threads(rt: HostRuntime) {
+fn sessions_in_threads_commit_or_have_a_conflict(rt: HostRuntime) {
     play(&rt, rt.alloc(), Scene::HireInThreads);
-}
-
-/// Eight sessions that all write one row. Each commit has its instant.
-pub(crate) fn name_in_threads<J: StoreName, R: Abort + Threads + Wait + Sync>(
-    rt: &R,
-    alloc: Global,
-    store: &LockedStore<J>,
-    receipts: &mut Vec<Receipt<J>>,
-) -> Audit {
-    keep_of_threads(rt, alloc, store, 8, false, receipts);
-    (160, 1, count_committed(receipts.as_slice()))
-}
-
-#[test]
-fn eight_threads(rt: HostRuntime) {
     play(&rt, rt.alloc(), Scene::NameInThreads);
 }
 
